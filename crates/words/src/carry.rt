@@ -1,0 +1,49 @@
+// Carrying out one event of a list.
+use crate::kind::FENCE;
+use crate::kind::FLUSH;
+use crate::kind::STORE;
+use crate::pool::Pool;
+use crate::refusal::Refusal;
+ghost use mathlib.Core.Path.{_≡_};
+ghost use Rattle.words.specs.Event.{event-at};
+ghost use Rattle.words.specs.Carry.{carried, after};
+
+pub enum Carried {
+    Done,
+    Refused(Refusal),
+}
+
+// Carries out event n of the list, counted from 1, on the pool.
+pub fn carry_out(pool: &mut [u64], list: &[u64], n: u64) -> Carried
+    ensures answer { λ r. ⌜ r ≡ carried (now (pool .entry)) (event-at (now (list .entry)) n) ⌝ }
+    ensures memory { λ _. ⌜ now (pool .exit) ≡ after (now (pool .entry)) (event-at (now (list .entry)) n) ⌝ }
+{
+    if n == 0 {
+        return Carried::Refused(Refusal::NoEvent);
+    }
+    if ((list.len() / 2) as u64) < n {
+        return Carried::Refused(Refusal::NoEvent);
+    }
+    let at = (n as usize - 1) * 2;
+    let first = list[at];
+    let value = list[at + 1];
+    let kind = first >> 56;
+    let number = first & 0x00ff_ffff_ffff_ffff;
+    match kind {
+        STORE => {
+            if number < (pool.len() as u64) {
+                pool[number as usize] = value;
+                return Carried::Done;
+            }
+            Carried::Refused(Refusal::NoEvent)
+        }
+        FLUSH => {
+            if number * Pool::LINE_WORDS < (pool.len() as u64) {
+                return Carried::Done;
+            }
+            Carried::Refused(Refusal::NoEvent)
+        }
+        FENCE => Carried::Done,
+        _ => Carried::Refused(Refusal::NoEvent),
+    }
+}
