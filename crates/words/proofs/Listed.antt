@@ -17,6 +17,7 @@ use Rattle.words.specs.Carry.{inside, carried, after, after-all, AllDone
 use Rattle.words.specs.declared.carry.Carried.the-variants.{Done}
 use Rattle.words.proofs.Joined.{joined-high, joined-low}
 use Rattle.words.proofs.Written.{length-written}
+use Rattle.words.proofs.Events.{length-step}
 
 -- "no such event in the list"
 pub event-zero : (l : List ℕ) (n : ℕ) → n ≡ 0 → event-at l n ≡ none
@@ -111,11 +112,6 @@ inside-step m n fence same = refl
 inside-keeps : (m n : List ℕ) (es : List Event) → length n ≡ length m → Inside m es → Inside n es
 inside-keeps m n [] same h = tt
 inside-keeps m n (e ∷ es) same h = (sym (inside-step m n e same) ∙ h .0, inside-keeps m n es same (h .1))
-
-length-step : (m : List ℕ) (e : Event) → length (step m e) ≡ length m
-length-step m (store w v) = length-set m w v
-length-step m (flush l) = refl
-length-step m fence = refl
 
 done-one : (m : List ℕ) (e : Event) (o : Option Event) → o ≡ some e → inside m e ≡ true → (after m o ≡ step m e) × (carried m o ≡ Done)
 done-one m e o is h = rw (is, h) (refl, refl)
