@@ -1,25 +1,28 @@
 -- Tests that compute: taken apart, put together, and what they tell.
-use Prim.Native.Nat.{ℕ, zero, suc, _≤_}
-use mathlib.Core.Path.{_≡_, refl}
+use Prim.Native.Nat.{ℕ, _≤_}
+use mathlib.Core.Path.{_≡_, refl, sym}
 use mathlib.Core.Logic.{_⊎_, inr, ⊎-elim}
 use mathlib.Core.Bool.{Bool, true, false, _&&_}
-use mathlib.Core.List.{List, [], _∷_}
 use native.Mathlib.Omega.{arith}
 use lib.Dec.{leb, eqb}
-use lib.ListN.{getD}
 use borrow.Author.Tests.{leb-true, le-leb, eqb-true, eqb-false}
-use Rattle.words.specs.Tests.{within, all}
+use Rattle.words.specs.Tests.{within}
 
-pub both : {a b : Bool} → a ≡ true → b ≡ true → (a && b) ≡ true
-both p q = rw (p, q)
+-- both parts of a joined test pass
+pub both : {a b : Bool} → (a && b) ≡ true → (a ≡ true) × (b ≡ true)
+both {a} {b} e = go a b e
+  where
+    go : (a b : Bool) → (a && b) ≡ true → (a ≡ true) × (b ≡ true)
+    go true b e = (refl, e)
+    go false b e = (e, cc)
 
-pub both-left : (a b : Bool) → (a && b) ≡ true → a ≡ true
-both-left true b h = refl
-both-left false b h = h
+pub within-says : (low x high : ℕ) → within low x high ≡ true → (low ≤ x) × (x ≤ high)
+within-says low x high h =
+    let b : (leb low x ≡ true) × (leb x high ≡ true) = both h in
+    (leb-true low x (b .0), leb-true x high (b .1))
 
-pub both-right : (a b : Bool) → (a && b) ≡ true → b ≡ true
-both-right true b h = h
-both-right false b h = cc
+pub within-of : (low x high : ℕ) → low ≤ x → x ≤ high → within low x high ≡ true
+within-of low x high l h = rw (le-leb low x l, le-leb x high h)
 
 -- a test does not both pass and fail
 pub differ : true ≡ false → ⊥
@@ -30,20 +33,14 @@ pub fails : (b : Bool) → ¬ (b ≡ true) → b ≡ false
 fails true n = absurd (n refl)
 fails false n = refl
 
-pub within-low : (a x b : ℕ) → within a x b ≡ true → a ≤ x
-within-low a x b h = leb-true a x (both-left (leb a x) (leb x b) h)
-
-pub within-high : (a x b : ℕ) → within a x b ≡ true → x ≤ b
-within-high a x b h = leb-true x b (both-right (leb a x) (leb x b) h)
-
-pub within-of : (a x b : ℕ) → a ≤ x → x ≤ b → within a x b ≡ true
-within-of a x b low high = both (le-leb a x low) (le-leb x b high)
-
--- test i of those that all pass
-pub passed : (bs : List Bool) → all bs ≡ true → (i : ℕ) → getD bs i true ≡ true
-passed [] h i = refl
-passed (b ∷ bs) h zero = both-left b (all bs) h
-passed (b ∷ bs) h (suc i) = passed bs (both-right b (all bs) h) i
+pub eqb-sym : (a b : ℕ) → eqb a b ≡ eqb b a
+eqb-sym a b = go (eqb a b) refl (eqb b a) refl
+  where
+    go : (s : Bool) → eqb a b ≡ s → (t : Bool) → eqb b a ≡ t → s ≡ t
+    go true p true q = refl
+    go false p false q = refl
+    go true p false q = absurd (eqb-false b a q (sym (eqb-true a b p)))
+    go false p true q = absurd (eqb-false a b p (sym (eqb-true b a q)))
 
 -- the test b tells whether P
 pub data Tells (P : Type 0) : Bool → Type 0 where

@@ -1,7 +1,6 @@
 -- Tests by which definitions choose.
 use Prim.Native.Nat.{ℕ}
 use mathlib.Core.Bool.{Bool, true, false, _&&_}
-use mathlib.Core.List.{List, [], _∷_}
 use lib.Dec.{leb}
 
 infix 5 if_then_else_
@@ -13,8 +12,3 @@ module _ {ℓ} {A : Type ℓ} where
 -- x is low to high, both ends included
 abbrev pub within : ℕ → ℕ → ℕ → Bool
 within low x high = leb low x && leb x high
-
--- every test of a list passes
-abbrev pub all : List Bool → Bool
-all [] = true
-all (b ∷ bs) = b && all bs

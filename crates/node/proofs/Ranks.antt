@@ -1,0 +1,163 @@
+-- Rising lists, and the rank of a number in one.
+use mathlib.Core.Path.{_≡_, _∙_, ap, sym, refl}
+use mathlib.Core.List.{List, [], _∷_}
+use mathlib.Core.Bool.{Bool, true, false, _&&_, _||_, false≢true}
+use mathlib.Core.Logic.{⊎-elim}
+use Prim.Native.Nat.{ℕ, zero, suc, _≤_, _<_}
+use native.Mathlib.Nat.{lt-trans, eq-or-lt-of-le}
+use native.Mathlib.Omega.{arith}
+use borrow.Author.Tests.{ltb-true, ltb-false, lt-ltb, le-ltb, eq-eqb, eqb-true, eqb-false}
+use lib.Dec.{ltb, eqb}
+use lib.ListN.{length, getD, take, drop}
+use Rattle.words.specs.Tests.{if_then_else_}
+use Rattle.node.specs.Lists.{insert, remove, has, rising, below}
+use Rattle.words.proofs.Tests.{both}
+use Rattle.node.proofs.Every.{every, every-cons, every-weaker, every-insert, every-remove, every-take, every-at, every-has}
+use Rattle.node.proofs.Sets.{has-at}
+
+-- the first of a rising list is less than each of the others
+every-more : (x y : ℕ) (ys : List ℕ) → x < y → every (λ z. ltb y z) ys ≡ true → every (λ z. ltb x z) ys ≡ true
+every-more x y ys h t =
+    every-weaker (λ z. ltb y z) (λ z. ltb x z) (λ z e. lt-ltb x z (lt-trans h (ltb-true y z e))) ys t
+
+pub rising-cons : (x : ℕ) (xs : List ℕ) → rising (x ∷ xs) ≡ true → (every (λ y. ltb x y) xs ≡ true) × (rising xs ≡ true)
+unfolding rising every
+rising-cons x [] t = (refl, refl)
+rising-cons x (y ∷ ys) t =
+    let p = both {a = ltb x y} {b = rising (y ∷ ys)} t in
+    (rw (p .0) (every-more x y ys (ltb-true x y (p .0)) (rising-cons y ys (p .1) .0)), p .1)
+
+pub cons-rising : (x : ℕ) (xs : List ℕ) → every (λ y. ltb x y) xs ≡ true → rising xs ≡ true → rising (x ∷ xs) ≡ true
+unfolding rising every
+cons-rising x [] e t = refl
+cons-rising x (y ∷ ys) e t = rw (every-cons (λ z. ltb x z) y ys e .0) t
+
+pub rising-remove : (i : ℕ) (xs : List ℕ) → rising xs ≡ true → rising (remove i xs) ≡ true
+unfolding rising
+rising-remove zero [] t = refl
+rising-remove (suc i) [] t = refl
+rising-remove zero (y ∷ ys) t = rising-cons y ys t .1
+rising-remove (suc i) (y ∷ ys) t =
+    let p = rising-cons y ys t in
+    cons-rising y (remove i ys) (every-remove (λ z. ltb y z) i ys (p .0)) (rising-remove i ys (p .1))
+
+pub rising-take : (i : ℕ) (xs : List ℕ) → rising xs ≡ true → rising (take i xs) ≡ true
+unfolding rising
+rising-take zero xs t = refl
+rising-take (suc i) [] t = refl
+rising-take (suc i) (y ∷ ys) t =
+    let p = rising-cons y ys t in
+    cons-rising y (take i ys) (every-take (λ z. ltb y z) i ys (p .0)) (rising-take i ys (p .1))
+
+pub rising-drop : (i : ℕ) (xs : List ℕ) → rising xs ≡ true → rising (drop i xs) ≡ true
+unfolding rising
+rising-drop zero xs t = t
+rising-drop (suc i) [] t = refl
+rising-drop (suc i) (y ∷ ys) t = rising-drop i ys (rising-cons y ys t .1)
+
+-- a number that the list has not, put in at its rank
+pub rising-insert : (x : ℕ) (xs : List ℕ) → rising xs ≡ true → has x xs ≡ false → rising (insert (below x xs) x xs) ≡ true
+unfolding rising below has
+rising-insert x [] t n = refl
+rising-insert x (y ∷ ys) t n =
+    go (eqb x y) refl n (ltb y x) refl (λ n. rising-insert x ys (rising-cons y ys t .1) n)
+  where
+    go : (a : Bool) → eqb x y ≡ a → (a || has x ys) ≡ false → (b : Bool) → ltb y x ≡ b
+        → (has x ys ≡ false → rising (insert (below x ys) x ys) ≡ true)
+        → rising (insert (if b then suc (below x ys) else 0) x (y ∷ ys)) ≡ true
+    go true e n b u f = absurd (false≢true (sym n))
+    go false e n true u f =
+        cons-rising y (insert (below x ys) x ys)
+        (every-insert (λ z. ltb y z) (below x ys) x ys ∙ rw (u) (rising-cons y ys t .0)) (f n)
+    go false e n false u f = rw (lt-ltb x y (apart (ltb-false y x u))) t
+      where
+        apart : x ≤ y → x < y
+        apart h = ⊎-elim (λ q. absurd (eqb-false x y e q)) (λ l. l) (eq-or-lt-of-le h)
+
+pub below-length : (x : ℕ) (xs : List ℕ) → below x xs ≤ length xs
+unfolding below
+below-length x [] = omega arith
+below-length x (y ∷ ys) = go (ltb y x) (below-length x ys)
+  where
+    go : (b : Bool) → below x ys ≤ length ys → (if b then suc (below x ys) else 0) ≤ suc (length ys)
+    go true h = omega arith
+    go false h = omega arith
+
+-- those before the rank are less
+pub before-rank : (x i : ℕ) (xs : List ℕ) → i < below x xs → getD xs i 0 < x
+unfolding below
+before-rank x i [] h = absurd (omega arith)
+before-rank x zero (y ∷ ys) h = go (ltb y x) refl h
+  where
+    go : (b : Bool) → ltb y x ≡ b → 0 < (if b then suc (below x ys) else 0) → y < x
+    go true u h = ltb-true y x u
+    go false u h = absurd (omega arith)
+before-rank x (suc i) (y ∷ ys) h = go (ltb y x) (before-rank x i ys) h
+  where
+    go : (b : Bool) → (i < below x ys → getD ys i 0 < x) → suc i < (if b then suc (below x ys) else 0) → getD ys i 0 < x
+    go true f h = f (omega arith)
+    go false f h = absurd (omega arith)
+
+-- and those from it on are not
+pub from-rank : (x i : ℕ) (xs : List ℕ) → rising xs ≡ true → below x xs ≤ i → i < length xs → x ≤ getD xs i 0
+unfolding below
+from-rank x i [] t h l = absurd (omega arith)
+from-rank x zero (y ∷ ys) t h l = go (ltb y x) refl h
+  where
+    go : (b : Bool) → ltb y x ≡ b → (if b then suc (below x ys) else 0) ≤ 0 → x ≤ y
+    go true u h = absurd (omega arith)
+    go false u h = ltb-false y x u
+from-rank x (suc i) (y ∷ ys) t h l = go (ltb y x) refl (λ h. from-rank x i ys (rising-cons y ys t .1) h (omega arith)) h
+  where
+    go : (b : Bool) → ltb y x ≡ b → (below x ys ≤ i → x ≤ getD ys i 0) → (if b then suc (below x ys) else 0) ≤ suc i
+        → x ≤ getD ys i 0
+    go true u f h = f (omega arith)
+    go false u f h =
+        let p : x ≤ y = ltb-false y x u in
+        let q : y < getD ys i 0 = ltb-true y (getD ys i 0) (every-at (λ z. ltb y z) i ys (rising-cons y ys t .0) (omega arith)) in
+        omega arith
+
+-- a number that a rising list has stands at its rank
+pub found-at : (x : ℕ) (xs : List ℕ) → rising xs ≡ true → has x xs ≡ true → (below x xs < length xs) × (getD xs (below x xs) 0 ≡ x)
+unfolding below has
+found-at x [] t h = absurd (false≢true h)
+found-at x (y ∷ ys) t h = go (eqb x y) refl h (ltb y x) refl (λ h. found-at x ys (rising-cons y ys t .1) h)
+  where
+    go : (a : Bool) → eqb x y ≡ a → (a || has x ys) ≡ true → (b : Bool) → ltb y x ≡ b
+        → (has x ys ≡ true → (below x ys < length ys) × (getD ys (below x ys) 0 ≡ x))
+        → ((if b then suc (below x ys) else 0) < suc (length ys)) × (getD (y ∷ ys) (if b then suc (below x ys) else 0) 0 ≡ x)
+    go true e h true u f =
+        let p : y < x = ltb-true y x u in
+        let q : x ≡ y = eqb-true x y e in
+        absurd (omega arith)
+    go true e h false u f = (omega arith, sym (eqb-true x y e))
+    go false e h true u f = let r = f h in let p = r .0 in (omega arith, r .1)
+    go false e h false u f =
+        let p : x ≤ y = ltb-false y x u in
+        let q : y < x = ltb-true y x (every-has (λ z. ltb y z) x ys (rising-cons y ys t .0) h) in
+        absurd (omega arith)
+
+-- the rank of the number at a place of a rising list is that place
+pub rank-at : (i : ℕ) (xs : List ℕ) → rising xs ≡ true → i < length xs → below (getD xs i 0) xs ≡ i
+unfolding below
+rank-at i [] t h = absurd (omega arith)
+rank-at zero (y ∷ ys) t h = rw (le-ltb y y (omega arith))
+rank-at (suc i) (y ∷ ys) t h =
+    let p = rising-cons y ys t in
+    rw (every-at (λ z. ltb y z) i ys (p .0) (omega arith), rank-at i ys (p .1) (omega arith))
+
+-- a rising list has x where x stands at its rank, and nowhere else
+pub has-at-rank : (x : ℕ) (xs : List ℕ) → rising xs ≡ true
+    → has x xs ≡ (ltb (below x xs) (length xs) && eqb (getD xs (below x xs) 0) x)
+has-at-rank x xs t = go (has x xs) refl (ltb (below x xs) (length xs)) refl (eqb (getD xs (below x xs) 0) x) refl
+  where
+    go : (a : Bool) → has x xs ≡ a → (b : Bool) → ltb (below x xs) (length xs) ≡ b → (c : Bool)
+        → eqb (getD xs (below x xs) 0) x ≡ c → a ≡ (b && c)
+    go true h b u c v =
+        let p = found-at x xs t h in
+        sym (rw (← u, ← v, lt-ltb (below x xs) (length xs) (p .0), eq-eqb (getD xs (below x xs) 0) x (p .1)))
+    go false h true u true v =
+        sym h ∙ ap (λ (y : ℕ). has y xs) (sym (eqb-true (getD xs (below x xs) 0) x v))
+        ∙ has-at (below x xs) xs (ltb-true (below x xs) (length xs) u)
+    go false h true u false v = refl
+    go false h false u c v = refl

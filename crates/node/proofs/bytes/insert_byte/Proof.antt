@@ -1,0 +1,31 @@
+use Prim.Native.Nat.{_*_}
+use native.Mathlib.Nat.{mod-lt}
+use native.Mathlib.Omega.{arith}
+use lib.Pow.{pow-pos}
+use Rattle.node.proofs.Joins.{inserted}
+use Rattle.node.proofs.Digits.{bytes-put-in}
+use borrow.Author.Needs.{needs}
+use Rattle.node.proofs.bytes.insert_byte.Statement.{statement}
+use Rattle.node.proofs.bytes.insert_byte.Tie as tie
+
+mul-k : tie.Need-mul-k
+mul-k c = search needs
+
+shr-result : tie.Need-shr-result
+shr-result c = search needs
+
+shl-result : tie.Need-shl-result
+shl-result c = search needs
+
+low-bytes-requires : tie.Need-low-bytes-requires
+low-bytes-requires c κs = search needs
+
+returns : tie.Need-returns
+returns c =
+    let s = c .before in
+    rw (c .low-bytes .ensures)
+    (rw (inserted (8 * s .args .i) (omega arith) (s .pre .2) (s .pre .1) (mod-lt (s .args .w) (pow-pos (8 * s .args .i))))
+    (λ n h. bytes-put-in (s .args .i) n (s .args .w) (s .args .b) (s .pre .1) h))
+
+pub insert-byte-spec : {M : Type 1} → statement M
+insert-byte-spec = tie.close (tie.spec mul-k shr-result shl-result low-bytes-requires returns)
