@@ -1,0 +1,24 @@
+-- The theory of trees over what the nodes say, for the floors above.
+pub mod Form
+pub mod Path
+pub mod Lists
+pub mod Keys
+pub mod Fits
+pub mod Find
+pub mod Frame
+pub mod Read
+pub mod Hole
+pub mod Along
+pub mod Way
+pub mod Map
+pub mod Leaf
+pub mod After
+pub mod Eight
+pub mod Rise
+pub mod Occurs
+pub mod Count
+pub mod Split
+pub mod SplitAfter
+pub mod Marks
+pub mod Walked
+pub mod Checked

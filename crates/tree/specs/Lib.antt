@@ -1,0 +1,9 @@
+-- What a reader believes of many nodes together: the header, the way down, the well-formed pool, its map, and the whole-pool check.
+pub mod Header
+pub mod Kids
+pub mod Path
+pub mod Lists
+pub mod WellFormed
+pub mod Map
+pub mod Reads
+pub mod Check

@@ -1,0 +1,2 @@
+// Many nodes: the header that leads to them, and the way down to the leaf of a key.
+pub mod header;
