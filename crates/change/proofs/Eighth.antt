@@ -8,7 +8,6 @@ use Rattle.words.specs.Pool.{list-words, used-at, root-at, height-at}
 use Rattle.words.specs.Event.{run}
 use Rattle.words.specs.Blocks.{Pair, stores}
 use Rattle.node.specs.Lists.{count-from}
-use Rattle.node.specs.View.{Record}
 use Rattle.tree.specs.Lists.{gather}
 use Rattle.change.specs.Answers.{outcome-says}
 use Rattle.change.specs.Steps.{new-node}

@@ -9,3 +9,15 @@ pub mod Counts
 pub mod Worst
 pub mod Most
 pub mod Eighth
+pub mod Pairs
+pub mod Goes
+pub mod Nodes
+pub mod Halves
+pub mod Leaf
+pub mod Targets
+pub mod Risen
+pub mod Run
+pub mod Split
+pub mod Cases
+pub mod Served
+pub mod Bounds

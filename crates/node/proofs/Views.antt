@@ -18,7 +18,7 @@ use Rattle.words.proofs.Tests.{both}
 use Rattle.node.proofs.Every.{every-has, below-every}
 use Rattle.node.proofs.Slots.{length-names}
 
-map-same : (f g : ℕ → Record) (ns : List ℕ) → ((e : ℕ) → has e ns ≡ true → f e ≡ g e) → map f ns ≡ map g ns
+pub map-same : (f g : ℕ → Record) (ns : List ℕ) → ((e : ℕ) → has e ns ≡ true → f e ≡ g e) → map f ns ≡ map g ns
 unfolding has
 map-same f g [] same = refl
 map-same f g (n ∷ ns) same =

@@ -1,6 +1,6 @@
 -- The header's tests, taken apart and put together: what passes them, that what breaks one fails, and that they look at words 0 to 7
 -- and the length alone.
-use Prim.Native.Nat.{ℕ, _+_, _*_, _≤_, _<_}
+use Prim.Native.Nat.{ℕ, _+_, _≤_, _<_}
 use mathlib.Core.Path.{_≡_, refl, sym, _∙_}
 use mathlib.Core.List.{List}
 use mathlib.Core.Bool.{Bool, true, false, _&&_}

@@ -1,10 +1,10 @@
 -- What calls that write events one after the other have written.
-use Prim.Native.Nat.{ℕ, suc, _+_, _*_}
+use Prim.Native.Nat.{ℕ, _+_}
 use mathlib.Core.Path.{_≡_, _∙_, ap, refl}
 use mathlib.Core.List.{List, [], _∷_, _++_}
 use native.Mathlib.Nat.{add-zero}
 use native.Mathlib.Omega.{arith}
-use lib.ListN.{length, length-append, length-set, set}
+use lib.ListN.{length, length-append, length-set}
 use Rattle.words.specs.Event.{Event}
 use Rattle.words.specs.Written.{written-one, written, Wrote}
 

@@ -1,8 +1,7 @@
 -- `tree::form_agrees` meets its contract: each return goes by the tests before it.
-use mathlib.Core.Path.{_≡_, refl, sym, _∙_}
+use mathlib.Core.Path.{sym, _∙_}
 use native.Mathlib.Omega.{arith}
 use borrow.Author.Needs.{needs}
-use borrow.Author.Tests.{leb-true}
 use Rattle.tree.proofs.Form.{form-broken, form-last}
 use Rattle.tree.proofs.header.form_agrees.Statement.{statement}
 use Rattle.tree.proofs.header.form_agrees.Tie as tie
