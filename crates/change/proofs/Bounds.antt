@@ -31,7 +31,7 @@ use Rattle.change.specs.Steps.{removed-slot}
 use Rattle.change.specs.Fetch.{fetch-at}
 use Rattle.change.specs.Delete.{delete-at}
 use Rattle.change.specs.Put.{put-at}
-use Rattle.change.specs.Calls.{serve, serve-list}
+use Rattle.change.specs.Calls.{serve, serve-list, key-of}
 use Rattle.change.proofs.Most.{fits}
 use Rattle.change.proofs.Pairs.{Between}
 use Rattle.change.proofs.Goes.{AllGo, go-stores, go-weaken, go-inside, go-numbered}
@@ -39,7 +39,6 @@ use Rattle.change.proofs.Nodes.{InNode}
 use Rattle.change.proofs.Leaf.{used-inside, leaf-range, leaf-node, deleted-goes, replaced-goes, filled-goes}
 use Rattle.change.proofs.Split.{split-goes}
 use Rattle.change.proofs.Cases.{gate-passes, PutAt, replaces, fills, crowded, too-high, splits, put-case}
-use Rattle.change.proofs.Served.{key-of}
 
 module _ {m : List ℕ} (w : WellFormed m) where
   -- the words that events may go to

@@ -38,7 +38,7 @@ abbrev pub node-pairs : Plan → List Pair
 node-pairs p = joined (p .nodes)
 
 -- the log's words
-log-in : (w : ℕ) (ps : List Pair) → Within (Between w (w + 2 * length ps)) (log-words w ps)
+pub log-in : (w : ℕ) (ps : List Pair) → Within (Between w (w + 2 * length ps)) (log-words w ps)
 unfolding log-words
 log-in w [] = tt
 log-in w (p ∷ ps) = (
@@ -89,7 +89,7 @@ module _ (P : ℕ → Type 0) where
   replay-goes (p ∷ ps) h = (h .0, ((p .0, h .0, refl), replay-goes ps (h .1)))
 
   -- the events of a plan
-  nodes-go : (ns : List (List Pair)) → Within P (joined ns) → AllGo P (new-nodes ns)
+  pub nodes-go : (ns : List (List Pair)) → Within P (joined ns) → AllGo P (new-nodes ns)
   unfolding new-nodes
   nodes-go [] h = tt
   nodes-go (n ∷ ns) h =

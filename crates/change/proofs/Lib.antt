@@ -21,3 +21,10 @@ pub mod Split
 pub mod Cases
 pub mod Served
 pub mod Bounds
+pub mod Recover
+pub mod Unread
+pub mod Survives
+pub mod LeafCuts
+pub mod SplitCuts
+pub mod ServeCuts
+pub mod FormatCuts

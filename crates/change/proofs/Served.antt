@@ -17,7 +17,7 @@ use Rattle.node.specs.Lists.{has}
 use Rattle.node.specs.Slot.{entries}
 use Rattle.node.specs.View.{view, keys, no-end}
 use Rattle.tree.specs.Header.{capacity-of, used-of}
-use Rattle.tree.specs.Path.{leaf, way-to}
+use Rattle.tree.specs.Path.{leaf}
 use Rattle.tree.specs.WellFormed.{WellFormed}
 use Rattle.tree.specs.Map.{map-of}
 use Rattle.tree.proofs.Hole.{above}
@@ -35,19 +35,12 @@ use Rattle.change.specs.Steps.{full}
 use Rattle.change.specs.Fetch.{said, fetch-at, fetch}
 use Rattle.change.specs.Delete.{delete-at, delete}
 use Rattle.change.specs.Put.{needed, put-at, put}
-use Rattle.change.specs.Calls.{serve}
+use Rattle.change.specs.Room.{LacksRoom, Crowded}
+use Rattle.change.specs.Calls.{serve, key-of}
 use Rattle.change.specs.Rule.{changed, rule}
 use Rattle.change.proofs.Leaf.{leaf-node, deleted, replaced, filled}
 use Rattle.change.proofs.Split.{needed-needs, split-leaves}
 use Rattle.change.proofs.Cases.{list-passes, gate-passes, PutAt, replaces, fills, crowded, too-high, splits, put-case}
-
--- the key's leaf is full, and its split needs more nodes than are left
-pub record Crowded (m : List ℕ) (key : ℕ) : Type 0 where
-  pub number : ℕ
-  pub up : List ℕ
-  pub way-is : way-to m key ≡ leaf number up
-  pub is-full : full (view m number) ≡ true
-  pub short : capacity-of m - used-of m < needed m (number ∷ up)
 
 -- what delete plans: nothing for an absent key, or events that take the key out
 pub data Deletes (m : List ℕ) (key : ℕ) (p : Planned Outcome) : Type 0 where
@@ -57,8 +50,8 @@ pub data Deletes (m : List ℕ) (key : ℕ) (p : Planned Outcome) : Type 0 where
 -- what put plans: events that replace the value of a present key, or that put an absent one in; or it is refused for want of room
 pub data Puts (m : List ℕ) (key value : ℕ) (p : Planned Outcome) : Type 0 where
   present : (old : ℕ) → map-of m key ≡ some old → p .answer ≡ Replaced → After m (run m (p .events)) key (some value) → Puts m key value p
-  new : map-of m key ≡ none → ¬ Crowded m key → p .answer ≡ New → After m (run m (p .events)) key (some value) → Puts m key value p
-  too-full : map-of m key ≡ none → Crowded m key → p ≡ refused NoRoom → Puts m key value p
+  new : map-of m key ≡ none → ¬ LacksRoom m key → p .answer ≡ New → After m (run m (p .events)) key (some value) → Puts m key value p
+  too-full : LacksRoom m key → p ≡ refused NoRoom → Puts m key value p
 
 module _ {m : List ℕ} (w : WellFormed m) where
   pub fetch-served : (key : ℕ) → key < no-end → fetch m key ≡ quiet (said (map-of m key))
@@ -84,12 +77,12 @@ module _ {m : List ℕ} (w : WellFormed m) where
         go false t = rw t (absent (not-there t) refl)
 
     -- a crowded key is at this leaf
-    crowded-here : Crowded m key
+    crowded-here : LacksRoom m key
         → (full (view m (y .place .number)) ≡ true) × (capacity-of m - used-of m < needed m (y .place .number ∷ above (y .up)))
     crowded-here c =
-        let e : leaf (c .number) (c .up) ≡ leaf k (above (y .up)) = sym (c .way-is) ∙ y .is in
-        let a : c .number ≡ k = cc in
-        let b : c .up ≡ above (y .up) = cc in
+        let e : leaf (c .node) (c .above) ≡ leaf k (above (y .up)) = sym (c .way) ∙ y .is in
+        let a : c .node ≡ k = cc in
+        let b : c .above ≡ above (y .up) = cc in
         (rw a at (c .is-full), rw (a, b) at (c .short))
 
     put-leaves : (value : ℕ) (p : Planned Outcome) → PutAt m key value (y .place .number) (above (y .up)) p → Puts m key value p
@@ -99,7 +92,15 @@ module _ {m : List ℕ} (w : WellFormed m) where
         new (not-there t) (λ c. differ (sym (crowded-here c .0) ∙ f)) refl
         (filled w y value (omega (arith, leaf-node w y .names .few)) t)
     put-leaves value p (crowded t f s) =
-        too-full (not-there t) (record { number = k; up = above (y .up); way-is = y .is; is-full = f; short = s }) refl
+        let lacks : LacksRoom m key = record {
+          node = k;
+          above = above (y .up);
+          way = y .is;
+          absent = not-there t;
+          is-full = f;
+          short = s;
+        } in
+        too-full lacks refl
     put-leaves value p (too-high h) = absurd (omega (arith, needed-needs m (k ∷ above (y .up)), split-needs w y))
     put-leaves value p (splits t f s) =
         new (not-there t) (λ c. omega (arith, crowded-here c .1)) refl (split-leaves w y value f s t)
@@ -116,24 +117,12 @@ module _ {m : List ℕ} (w : WellFormed m) where
         rw (list-passes room _ long ∙ gate-passes (put-at m key value) w y)
         (put-leaves y value _ (put-case m key value (y .place .number) (above (y .up))))
 
--- the key of a request
-abbrev pub key-of : Request → ℕ
-key-of (Put key value) = key
-key-of (Fetch key) = key
-key-of (Delete key) = key
-
--- the request is a put of an absent key whose split needs more nodes than are left
-abbrev pub NeedsRoom : List ℕ → Request → Type 0
-NeedsRoom m (Put key value) = (map-of m key ≡ none) × Crowded m key
-NeedsRoom m (Fetch key) = ⊥
-NeedsRoom m (Delete key) = ⊥
-
 -- the plan of a request: it answers by the map's rule and its events leave a well-formed pool with the map that the rule says; or
 -- it is refused with no events, exactly where it needs more room than there is
 pub data Served (m : List ℕ) (q : Request) (p : Planned Outcome) : Type 0 where
-  by-rule : ¬ NeedsRoom m q → p .answer ≡ rule q (map-of m) .0 → WellFormed (run m (p .events))
+  by-rule : ¬ Crowded m q → p .answer ≡ rule q (map-of m) .0 → WellFormed (run m (p .events))
       → map-of (run m (p .events)) ≡ rule q (map-of m) .1 → Served m q p
-  no-room : NeedsRoom m q → p ≡ refused NoRoom → Served m q p
+  no-room : Crowded m q → p ≡ refused NoRoom → Served m q p
 
 -- taking out an absent key changes nothing
 unchanged : (m : List ℕ) (key : ℕ) → map-of m key ≡ none → map-of m ≡ changed key none (map-of m)
@@ -145,10 +134,10 @@ unchanged m key e = fun-ext (λ q. go q (eqb q key) refl)
 
 put-rule : {m : List ℕ} (key value : ℕ) (p : Planned Outcome) → Puts m key value p → Served m (Put key value) p
 put-rule key value p (present old e a c) =
-    by-rule (λ n. let z : none ≡ some old = sym (n .0) ∙ e in let z′ : _≡_ {A = ℕ} 0 1 = cc in omega arith)
+    by-rule (λ n. let z : none ≡ some old = sym (n .absent) ∙ e in let z′ : _≡_ {A = ℕ} 0 1 = cc in omega arith)
     (rw e a) (c .well-formed) (c .map-is)
-put-rule key value p (new e n a c) = by-rule (λ x. n (x .1)) (rw e a) (c .well-formed) (c .map-is)
-put-rule key value p (too-full e c i) = no-room (e, c) i
+put-rule key value p (new e n a c) = by-rule n (rw e a) (c .well-formed) (c .map-is)
+put-rule key value p (too-full c i) = no-room c i
 
 module _ {m : List ℕ} (w : WellFormed m) where
   delete-rule : (key : ℕ) (p : Planned Outcome) → Deletes m key p → Served m (Delete key) p

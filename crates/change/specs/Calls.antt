@@ -62,6 +62,12 @@ check-answer m marks = check m marks .answer
 abbrev pub check-marks : List ℕ → List ℕ → List ℕ
 check-marks m marks = check m marks .marks
 
+-- the key that a request names
+abbrev pub key-of : Request → ℕ
+key-of (Put key value) = key
+key-of (Fetch key) = key
+key-of (Delete key) = key
+
 -- "each empty or holding one put, fetch or delete": a request is served by its own call
 abbrev pub serve : ℕ → List ℕ → Request → Planned Outcome
 serve room m (Put key value) = put room m key value

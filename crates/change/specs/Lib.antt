@@ -10,6 +10,7 @@ pub mod Fetch
 pub mod Delete
 pub mod Put
 pub mod Check
+pub mod Room
 pub mod Calls
 pub mod Rule
 pub mod Most

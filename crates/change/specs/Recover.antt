@@ -5,8 +5,8 @@ use mathlib.Core.Bool.{Bool, true, not, _&&_}
 use lib.ListN.{length}
 use lib.Dec.{leb, ltb, eqb}
 use Rattle.words.specs.Tests.{if_then_else_, within}
-use Rattle.words.specs.Pool.{used-at, log-at, nodes-at, pairs-at, pairs-most}
-use Rattle.words.specs.Event.{at}
+use Rattle.words.specs.Pool.{used-at, log-at, nodes-at, pairs-at, pairs-most, list-words}
+use Rattle.words.specs.Event.{Event, at}
 use Rattle.words.specs.Blocks.{Pair}
 use Rattle.words.specs.declared.refusal.Refusal.{Refusal}
 use Rattle.words.specs.declared.refusal.Refusal.the-variants.{BadLog}
@@ -49,3 +49,7 @@ recover-past-form m =
 -- 1, 2, then clean, 6 or recovered
 abbrev pub recover : ℕ → List ℕ → Planned Recovery
 recover room m = past-list refuse room (past-form refuse m (recover-past-form m))
+
+-- the events that recovery plans for a memory, with "a list of 372 words"
+abbrev pub recovery : List ℕ → List Event
+recovery m = recover list-words m .events
