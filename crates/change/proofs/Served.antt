@@ -36,7 +36,7 @@ use Rattle.change.specs.Fetch.{said, fetch-at, fetch}
 use Rattle.change.specs.Delete.{delete-at, delete}
 use Rattle.change.specs.Put.{needed, put-at, put}
 use Rattle.change.specs.Room.{LacksRoom, Crowded}
-use Rattle.change.specs.Calls.{serve, key-of}
+use Rattle.change.specs.Calls.{serve, serve-answer, key-of}
 use Rattle.change.specs.Rule.{changed, rule}
 use Rattle.change.proofs.Leaf.{leaf-node, deleted, replaced, filled}
 use Rattle.change.proofs.Split.{needed-needs, split-leaves}
@@ -148,3 +148,7 @@ module _ {m : List ℕ} (w : WellFormed m) where
   serve-served room (Put key value) long small = put-rule key value (put room m key value) (put-served w room key long small value)
   serve-served room (Fetch key) long small = rw (fetch-served w key small) (by-rule (λ x. x) refl w refl)
   serve-served room (Delete key) long small = delete-rule key (delete room m key) (delete-served w room key long small)
+
+-- the event count of an answer is the length of what is planned
+pub serve-counted : (m l : List ℕ) (q : Request) → serve-answer m l q .events ≡ length (serve (length l) m q .events)
+serve-counted m l q = refl

@@ -172,4 +172,4 @@ module _ (m l : List ℕ) (capacity : ℕ) (long : p.list-words ≤ length l) (l
       })
 
 pub demand-2 : Demand2
-demand-2 = record { serves = serves; formats = formats }
+demand-2 = record { counts = served.serve-counted; serves = serves; formats = formats }

@@ -25,7 +25,7 @@ use Rattle.change.specs.Gate.{Planned, list-after, refused}
 use Rattle.change.specs.Format.{format}
 use Rattle.change.specs.Recover.{recover, recovery}
 use Rattle.change.specs.Room.{Crowded}
-use Rattle.change.specs.Calls.{serve, key-of}
+use Rattle.change.specs.Calls.{serve, serve-answer, key-of}
 use Rattle.change.specs.Rule.{empty, rule}
 
 -- a well-formed pool, and the map that it is
@@ -107,6 +107,8 @@ pub record Formats (m l : List ℕ) (capacity : ℕ) (p : Planned Formatted) : T
 -- with the map before the change or after it; once the last event is done, only after."
 -- So for every well-formed pool, every list of 372 words or more and every request with a 64-bit key; and format, for every capacity.
 pub record Demand2 : Type 0 where
+  -- "the list itself, its length the count"
+  pub counts : (m l : List ℕ) (q : Request) → serve-answer m l q .events ≡ length (serve (length l) m q .events)
   pub serves : (m l : List ℕ) (q : Request) → WellFormed m → list-words ≤ length l → key-of q < no-end → Served m l q
   pub formats : (m l : List ℕ) (capacity : ℕ) → list-words ≤ length l → 1 ≤ capacity → capacity ≤ capacity-most
       → total-of capacity ≤ length m → Formats m l capacity (format (length l) (length m) capacity)

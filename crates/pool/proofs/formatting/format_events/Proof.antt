@@ -1,6 +1,5 @@
 -- `pool::format_events` meets its contract: four calls, one after the other.
 use borrow.Author.Needs.{needs}
-use native.Mathlib.Omega.{arith}
 use Rattle.words.specs.Blocks.{lines, stored}
 use Rattle.words.proofs.Written.{wrote-append}
 use Rattle.change.specs.Format.{format-events}
