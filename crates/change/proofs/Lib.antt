@@ -28,3 +28,4 @@ pub mod LeafCuts
 pub mod SplitCuts
 pub mod ServeCuts
 pub mod FormatCuts
+pub mod Wrong

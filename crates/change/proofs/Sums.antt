@@ -3,11 +3,10 @@ use Prim.Native.Nat.{ℕ}
 use mathlib.Core.Path.{_≡_, refl, ap, ap₂}
 use mathlib.Core.Logic.{_⊎_, inl, inr}
 use mathlib.Core.List.{List, [], _∷_, _++_}
-use mathlib.Core.List.{List·Memᴰ as In, List·Memᴰ·head as here, List·Memᴰ·tail as there}
 use mathlib.Core.Bool.{Bool, true, false, _&&_, _||_}
 use lib.ListN.{length, take}
 use lib.Dec.{T, eqb, eqb→eq}
-use Rattle.words.proofs.AllCuts.{cuts, every, every-cut, cuts-only}
+use Rattle.words.proofs.AllCuts.{cuts, every, every-cut, any, some-cut}
 use Rattle.node.specs.View.{Record}
 use Rattle.change.specs.Sums.{Left, Row, cut-after, Agrees, before, after, recovered, less-30, putting-35, Leaves, AllAgree, Sums}
 use Rattle.change.specs.Sums.{leaf-rows, split-rows, room-rows, refusal-rows, cut-rows, rows}
@@ -66,24 +65,10 @@ left-either-is m e = go (left before m) refl
     go true t = inl (left-is before m t)
     go false t = inr (left-is after m (rw t at e))
 
--- some memory of the list passes a test
-any : (List ℕ → Bool) → List (List ℕ) → Bool
-any f [] = false
-any f (m ∷ ms) = f m || any f ms
-
-any-in : (f : List ℕ → Bool) (ms : List (List ℕ)) → T (any f ms) → (m : List ℕ) × In m ms × (f m ≡ true)
-unfolding any
-any-in f [] t = absurd t
-any-in f (m ∷ ms) t = go (any-in f ms) (f m) refl
-  where
-    go : (T (any f ms) → (m : List ℕ) × In m ms × (f m ≡ true)) → (b : Bool) → f m ≡ b → (m′ : List ℕ) × In m′ (m ∷ ms) × (f m′ ≡ true)
-    go r true e = (m, here refl, e)
-    go r false e = let t′ : T (any f ms) = rw e at t in let x = r t′ in (x .0, there (x .1), x .2)
-
 leaves : (n : ℕ) (rs : List Record) → T (any (left rs) (cuts less-30 (take n putting-35))) → Leaves n rs
 leaves n rs t =
-    let x = any-in (left rs) (cuts less-30 (take n putting-35)) t in
-    (x .0, cuts-only less-30 (take n putting-35) (x .1), left-is rs (x .0) (x .2))
+    let x = some-cut (left rs) less-30 (take n putting-35) t in
+    (x .0, x .1, left-is rs (x .0) (x .2))
 
 either : (n : ℕ) → T (every left-either (cuts less-30 (take n putting-35)))
     → T (any (left before) (cuts less-30 (take n putting-35))) → T (any (left after) (cuts less-30 (take n putting-35)))

@@ -1,6 +1,14 @@
 -- How the calls' returns meet their definitions, and the proofs of demands 1 and 2.
 pub mod Planning
+pub mod Gates
 pub mod Formats
+pub mod Fetches
+pub mod Deletes
+pub mod Recovers
+pub mod Marks
+pub mod Walks
+pub mod Children
+pub mod Checks
 pub mod Tight
 pub mod Demand1
 pub mod Demand2

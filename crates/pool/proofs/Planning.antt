@@ -6,7 +6,9 @@ use native.Mathlib.Nat.{zero-add}
 use lib.ListN.{length}
 use Rattle.words.specs.Event.{Event}
 use Rattle.words.specs.Written.{written, Wrote}
-use Rattle.change.specs.Gate.{Planned, quiet, list-after}
+use Rattle.change.specs.declared.Outcome.{Outcome}
+use Rattle.change.specs.declared.Answer.{Answer}
+use Rattle.change.specs.Gate.{Planned, quiet, list-after, answered}
 
 -- no events: the list is as it was
 pub quietly : {A : Type 0} (p : Planned A) (a : A) (l : List ℕ) → p ≡ quiet a → (a ≡ p .answer) × (l ≡ list-after p l)
@@ -17,3 +19,20 @@ quietly p a l e = rw e (refl, refl)
 pub planned : {A : Type 0} (p : Planned A) (f : ℕ → A) (es : List Event) {l l′ : List ℕ} {r : ℕ}
     → p ≡ record { answer = f (length es); events = es } → Wrote es 0 l r l′ → (f r ≡ p .answer) × (l′ ≡ list-after p l)
 planned p f es e w = rw e (ap f (w .next ∙ zero-add (length es)), w .list)
+
+-- the same of an outcome with its event count
+pub quiet-answer : (p : Planned Outcome) (o : Outcome) {a : Answer} (l : List ℕ) → a ≡ answered (quiet o) → p ≡ quiet o
+    → (a ≡ answered p) × (l ≡ list-after p l)
+unfolding written
+quiet-answer p o l a e = rw (e, a) (refl, refl)
+
+pub planned-answer : (p : Planned Outcome) (o : Outcome) (es : List Event) {l l′ : List ℕ} {r : ℕ}
+    → p ≡ record { answer = o; events = es } → Wrote es 0 l r l′
+    → (_≡_ {A = Answer} (record { outcome = o; events = r }) (answered p)) × (l′ ≡ list-after p l)
+planned-answer p o es e w =
+    rw e (ap (λ (n : ℕ). record { outcome = o; events = n }) (w .next ∙ zero-add (length es)), w .list)
+
+-- what another call answered and wrote for the same plan
+pub passed-on : (p q : Planned Outcome) {a : Answer} (l : List ℕ) {l′ : List ℕ} → p ≡ q → (a ≡ answered q) × (l′ ≡ list-after q l)
+    → (a ≡ answered p) × (l′ ≡ list-after p l)
+passed-on p q l e h = rw e h

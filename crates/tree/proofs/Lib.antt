@@ -1,6 +1,9 @@
 -- The theory of trees over what the nodes say, for the floors above.
 pub mod Form
 pub mod Path
+pub mod Kids
+pub mod Ways
+pub mod Leaves
 pub mod Lists
 pub mod Keys
 pub mod Fits

@@ -7,3 +7,4 @@ pub mod WellFormed
 pub mod Map
 pub mod Reads
 pub mod Check
+pub mod Descended

@@ -1,2 +1,3 @@
 // Many nodes: the header that leads to them, and the way down to the leaf of a key.
+pub mod descend;
 pub mod header;

@@ -2,7 +2,7 @@
 use Prim.Native.Nat.{ℕ, zero, suc, _+_, _<_}
 use mathlib.Core.Path.{_≡_, refl, sym, ap}
 use mathlib.Core.Logic.{⊎-elim}
-use mathlib.Core.Bool.{Bool, true, false, _&&_}
+use mathlib.Core.Bool.{Bool, true, false, _&&_, _||_}
 use mathlib.Core.List.{List, [], _∷_, _++_, map}
 use mathlib.Core.List.{List·Memᴰ as In, List·Memᴰ·head as here, List·Memᴰ·tail as there}
 use mathlib.Core.List.{List·Memᴰ·not-nil, List·Memᴰ·append-cases, List·Memᴰ·eq-of-singleton}
@@ -116,3 +116,21 @@ every-in f (there {x} {xs} h) t = every-in f h (both (f x) (every f xs) t .1)
 
 pub every-cut : (f : List ℕ → Bool) (m : List ℕ) (es : List Event) → T (every f (cuts m es)) → {m′ : List ℕ} → Cut m es m′ → f m′ ≡ true
 every-cut f m es t c = every-in f (cuts-all c) t
+
+-- a test that passes at one of the list passes after some cut
+unfoldable pub any : (List ℕ → Bool) → List (List ℕ) → Bool
+any f [] = false
+any f (m ∷ ms) = f m || any f ms
+
+any-in : (f : List ℕ → Bool) (ms : List (List ℕ)) → T (any f ms) → (m : List ℕ) × In m ms × (f m ≡ true)
+unfolding any
+any-in f [] t = absurd t
+any-in f (m ∷ ms) t = go (any-in f ms) (f m) refl
+  where
+    go : (T (any f ms) → (m : List ℕ) × In m ms × (f m ≡ true)) → (b : Bool) → f m ≡ b
+        → (m′ : List ℕ) × In m′ (m ∷ ms) × (f m′ ≡ true)
+    go r true e = (m, here refl, e)
+    go r false e = let t′ : T (any f ms) = rw e at t in let x = r t′ in (x .0, there (x .1), x .2)
+
+pub some-cut : (f : List ℕ → Bool) (m : List ℕ) (es : List Event) → T (any f (cuts m es)) → (m′ : List ℕ) × Cut m es m′ × (f m′ ≡ true)
+some-cut f m es t = let x = any-in f (cuts m es) t in (x .0, cuts-only m es (x .1), x .2)

@@ -1,0 +1,104 @@
+-- `pool::recover` meets its contract: each return goes by the tests before it.
+use borrow.Author.Needs.{needs}
+use mathlib.Core.Path.{_≡_, _∙_, sym}
+use mathlib.Core.Bool.{true}
+use native.Mathlib.Omega.{arith}
+use borrow.Author.Tests.{not-true, not-false}
+use Rattle.tree.specs.Header.{commit-of, form-agrees}
+use Rattle.tree.proofs.Form.{form}
+use Rattle.change.specs.declared.Recovery.the-variants.{Recovered}
+use Rattle.change.specs.Recover.{log-agrees}
+use Rattle.pool.proofs.Planning.{quietly, planned}
+use Rattle.pool.proofs.Recovers.{recover-short, recover-no-pool, recover-clean, recover-bad-log, recover-done}
+use Rattle.pool.proofs.Recovers.{replayed-few, finished}
+use Rattle.pool.proofs.recovering.recover.Statement.{statement}
+use Rattle.pool.proofs.recovering.recover.Tie as tie
+
+is-pool : (c : tie.Else2) → form-agrees (c .before .before .before .before .before .args .pool .now) ≡ true
+is-pool c = sym (c .before .form-agrees .ensures) ∙ not-false _ (c .if2 .left)
+
+log-ok : (c : tie.Else4) → log-agrees (c .before .before .before .before .before .before .before .before .before .args .pool .now) ≡ true
+log-ok c = sym (c .before .log-agrees .ensures) ∙ not-false _ (c .if4 .left)
+
+returns : tie.Need-returns
+returns c = quietly _ _ _ (recover-short _ _ (c .if1 .taken))
+
+form-agrees-requires : tie.Need-form-agrees-requires
+form-agrees-requires c κs = search needs
+
+returns-2 : tie.Need-returns-2
+returns-2 c =
+    let g = c .before in
+    quietly _ _ _ (recover-no-pool _ _ (g .before .if1 .left) (sym (g .form-agrees .ensures) ∙ not-true _ (c .if2 .taken)))
+
+mul-pairs : tie.Need-mul-pairs
+mul-pairs c = search needs
+
+shared-slice-read-pairs : tie.Need-shared-slice-read-pairs
+shared-slice-read-pairs c = let h = form _ (is-pool (c .before)) .least in omega arith
+
+returns-3 : tie.Need-returns-3
+returns-3 c =
+    let g = c .before .before in
+    quietly _ _ _ (recover-clean _ _ (g .before .before .if1 .left) (is-pool g) (c .if3 .taken))
+
+log-agrees-requires : tie.Need-log-agrees-requires
+log-agrees-requires c κs = form _ (is-pool (c .before .before)) .least
+
+returns-4 : tie.Need-returns-4
+returns-4 c =
+    let n = c .before .before in
+    let g = n .before .before in
+    let bad = sym (c .before .log-agrees .ensures) ∙ not-true _ (c .if4 .taken) in
+    quietly _ _ _ (recover-bad-log _ _ (g .before .before .if1 .left) (is-pool g) (n .if3 .left) bad)
+
+replay-log-requires : tie.Need-replay-log-requires
+replay-log-requires c κs =
+    let t = c .before in
+    (is-pool (t .before .before .before .before), log-ok t, omega arith)
+
+write-fence-requires : tie.Need-write-fence-requires
+write-fence-requires c κs =
+    let r = c .before .before .before in
+    let h = replayed-few _ (log-ok (r .before .before)) (r .replay-log .ensures) in
+    (omega arith, omega arith)
+
+write-once-requires : tie.Need-write-once-requires
+write-once-requires c κs =
+    let f = c .before .before .before in
+    let r = f .before .before .before .before in
+    let h = replayed-few _ (log-ok (r .before .before)) (r .replay-log .ensures) in
+    (omega (arith, f .write-fence .ensures .next), omega arith, omega arith)
+
+same-length : tie.Need-same-length
+same-length c = search needs
+
+returns-5 : tie.Need-returns-5
+returns-5 c =
+    let o = c .before .before in
+    let f = o .before .before .before .before in
+    let r = f .before .before .before .before in
+    let t = r .before .before in
+    let n = t .before .before in
+    let g = n .before .before in
+    let e = recover-done _ _ (g .before .before .if1 .left) (is-pool g) (n .if3 .left) (log-ok t) in
+    planned _ (Recovered (commit-of (g .before .before .before .before .before .args .pool .now))) _ e
+    (finished _ (r .replay-log .ensures) (f .write-fence .ensures) (o .write-once .ensures))
+
+pub recover-spec : {M : Type 1} → statement M
+recover-spec =
+    tie.close
+    (tie.spec
+    returns
+    form-agrees-requires
+    returns-2
+    mul-pairs
+    shared-slice-read-pairs
+    returns-3
+    log-agrees-requires
+    returns-4
+    replay-log-requires
+    write-fence-requires
+    write-once-requires
+    same-length
+    returns-5)

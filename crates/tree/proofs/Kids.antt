@@ -1,0 +1,143 @@
+-- The children of a node, one by one: their numbers and covers, and which of them a key goes to.
+use Prim.Native.Nat.{ℕ, zero, suc, _+_, _-_, _≤_, _<_}
+use mathlib.Core.Path.{_≡_, refl, sym, _∙_, ap}
+use mathlib.Core.List.{List, [], _∷_}
+use mathlib.Core.Bool.{Bool, true, false, and-false}
+use native.Mathlib.Nat.{suc-add}
+use native.Mathlib.Omega.{arith}
+use lib.ListN.{length, getD}
+use lib.Dec.{ltb, eqb}
+use mir.Val.{boolByte}
+use borrow.Author.Tests.{ltb-true, ltb-false, lt-ltb, le-ltb, ne-eqb, eqb-true, eqb-false}
+use Rattle.words.specs.Event.{at}
+use Rattle.words.proofs.Tests.{both}
+use Rattle.node.specs.Lists.{has, below, rising}
+use Rattle.node.specs.Slot.{count, names, entries}
+use Rattle.node.specs.View.{Record, view, keys, entry, slot-at, link-at, key-at, value-at}
+use Rattle.node.specs.Looked.{end-of}
+use Rattle.node.specs.declared.cover.Cover.{Cover}
+use Rattle.node.proofs.Every.{below-at}
+use Rattle.node.proofs.Slots.{length-names}
+use Rattle.node.proofs.Ranks.{rising-cons, has-at-rank}
+use Rattle.node.proofs.Views.{view-length, record-at}
+use Rattle.tree.specs.Kids.{Kid, kids-from, pick-from}
+use Rattle.tree.specs.Descended.{Named, kid-after}
+
+module _ (lo hi : ℕ) (d : Kid) where
+  first-number : (l : ℕ) (rs : List Record) → getD (kids-from l lo hi rs) 0 d .number ≡ l
+  first-number l [] = refl
+  first-number l (r ∷ rs) = refl
+
+  first-from : (l : ℕ) (rs : List Record) → getD (kids-from l lo hi rs) 0 d .from ≡ lo
+  first-from l [] = refl
+  first-from l (r ∷ rs) = refl
+
+module _ (hi : ℕ) (d : Kid) (z : Record) where
+  later-number : (l lo i : ℕ) (rs : List Record) → i < length rs → getD (kids-from l lo hi rs) (suc i) d .number ≡ getD rs i z .1
+  later-number l lo i [] h = absurd (omega arith)
+  later-number l lo zero (r ∷ rs) h = first-number (r .0) hi d (r .1) rs
+  later-number l lo (suc i) (r ∷ rs) h = later-number (r .1) (r .0) i rs (omega arith)
+
+  later-from : (l lo i : ℕ) (rs : List Record) → i < length rs → getD (kids-from l lo hi rs) (suc i) d .from ≡ getD rs i z .0
+  later-from l lo i [] h = absurd (omega arith)
+  later-from l lo zero (r ∷ rs) h = first-from (r .0) hi d (r .1) rs
+  later-from l lo (suc i) (r ∷ rs) h = later-from (r .1) (r .0) i rs (omega arith)
+
+  last-upto : (l lo i : ℕ) (rs : List Record) → i ≡ length rs → getD (kids-from l lo hi rs) i d .upto ≡ hi
+  last-upto l lo zero [] h = refl
+  last-upto l lo (suc i) [] h = absurd (omega arith)
+  last-upto l lo zero (r ∷ rs) h = absurd (omega arith)
+  last-upto l lo (suc i) (r ∷ rs) h = last-upto (r .1) (r .0) i rs (omega arith)
+
+  inner-upto : (l lo i : ℕ) (rs : List Record) → i < length rs → getD (kids-from l lo hi rs) i d .upto ≡ getD rs i z .0
+  inner-upto l lo i [] h = absurd (omega arith)
+  inner-upto l lo zero (r ∷ rs) h = refl
+  inner-upto l lo (suc i) (r ∷ rs) h = inner-upto (r .1) (r .0) i rs (omega arith)
+
+-- a node's names are those of entries, and each has its record
+module _ (m : List ℕ) (k w : ℕ) (n : Named m k w) where
+  pub name-low : {e : ℕ} (i : ℕ) → i < count w → e ≡ getD (names w) i 0 → e < entries
+  name-low i h e = rw e (below-at entries i (names w) (n .low) (rw (length-names w) h))
+
+  pub named-at : {e : ℕ} (i : ℕ) → i < count w → e ≡ getD (names w) i 0
+      → (i < length (view m k .records)) × (getD (view m k .records) i (0, 0) ≡ entry m k e)
+  named-at i h e =
+      let l : i < count (at m (slot-at k)) = rw (← n .word) h in
+      (rw (view-length m k) l, record-at m k i (0, 0) l ∙ rw (← n .word, ← e) refl)
+
+-- the child of node k under a cover that has j keys before it, from the words
+module _ (m : List ℕ) (k w : ℕ) (n : Named m k w) (c : Cover) (j : ℕ) where
+  abbrev z : Record
+  z = (0, 0)
+
+  abbrev rs : List Record
+  rs = view m k .records
+
+  pub first-child : j ≡ 0 → at m (link-at k) ≡ kid-after m k c j .number
+  unfolding view
+  first-child e = rw e (sym (first-number (c .lo) (end-of c) _ (at m (link-at k)) rs))
+
+  pub first-low : j ≡ 0 → c .lo ≡ kid-after m k c j .from
+  first-low e = rw e (sym (first-from (c .lo) (end-of c) _ (view m k .link) rs))
+
+  pub last-high : count w ≤ j → j ≤ count w → end-of c ≡ kid-after m k c j .upto
+  last-high h g =
+      let e : length rs ≡ count w = view-length m k ∙ ap count (sym (n .word)) in
+      sym (last-upto (end-of c) _ z (view m k .link) (c .lo) j rs (omega arith))
+
+  pub high-at : {e x : ℕ} → j < count w → e ≡ getD (names w) j 0 → x ≡ at m (key-at k e) → x ≡ kid-after m k c j .upto
+  high-at h e x =
+      let a = named-at m k w n j h e in
+      x ∙ sym (inner-upto (end-of c) _ z (view m k .link) (c .lo) j rs (a .0) ∙ ap (λ (r : Record). r .0) (a .1))
+
+  -- from the record before it
+  module _ {e : ℕ} (some : j ≡ 0 → ⊥) (most : j ≤ count w) (name : e ≡ getD (names w) (j - 1) 0) where
+    before : j ≡ suc (j - 1)
+    before = omega arith
+
+    there : (j - 1 < length rs) × (getD rs (j - 1) z ≡ entry m k e)
+    there = named-at m k w n (j - 1) (omega arith) name
+
+    pub later-child : {x : ℕ} → x ≡ at m (value-at k e) → x ≡ kid-after m k c j .number
+    later-child is =
+        let later = later-number (end-of c) _ z (view m k .link) (c .lo) (j - 1) rs (there .0) in
+        rw before (is ∙ sym (later ∙ ap (λ (r : Record). r .1) (there .1)))
+
+    pub later-low : {x : ℕ} → x ≡ at m (key-at k e) → x ≡ kid-after m k c j .from
+    later-low is =
+        let later = later-from (end-of c) _ z (view m k .link) (c .lo) (j - 1) rs (there .0) in
+        rw before (is ∙ sym (later ∙ ap (λ (r : Record). r .0) (there .1)))
+
+-- where the first is above a key, none is below it, and it is not there
+none-below : (key : ℕ) (xs : List ℕ) → rising (key ∷ xs) ≡ true → below key xs + boolByte (has key xs) ≡ 0
+unfolding rising below has
+none-below key [] t = refl
+none-below key (x ∷ xs) t =
+    let p : (ltb key x ≡ true) × (rising (x ∷ xs) ≡ true) = both t in
+    let h : key < x = ltb-true key x (p .0) in
+    let b : ltb x key ≡ false = le-ltb x key (omega arith) in
+    let first : below key (x ∷ xs) ≡ 0 = rw b in
+    let not-there : has key (x ∷ xs) ≡ false = has-at-rank key (x ∷ xs) (p .1) ∙ rw (first, ne-eqb x key (λ e. omega arith), and-false) in
+    rw (b, not-there)
+
+-- a key goes to the child that has before it the keys below it, and the key itself if it is there
+pub pick-is : (key hi : ℕ) (d : Kid) (l lo : ℕ) (rs : List Record) → rising (keys rs) ≡ true
+    → pick-from key l lo hi rs ≡ getD (kids-from l lo hi rs) (below key (keys rs) + boolByte (has key (keys rs))) d
+unfolding pick-from below has rising
+pick-is key hi d l lo [] t = refl
+pick-is key hi d l lo (r ∷ rs) t =
+    go (pick-is key hi d (r .1) (r .0) rs (rising-cons (r .0) (keys rs) t .1)) (ltb key (r .0)) refl (eqb key (r .0)) refl
+  where
+    go : pick-from key (r .1) (r .0) hi rs
+        ≡ getD (kids-from (r .1) (r .0) hi rs) (below key (keys rs) + boolByte (has key (keys rs))) d
+        → (b : Bool) → ltb key (r .0) ≡ b → (c : Bool) → eqb key (r .0) ≡ c
+        → pick-from key l lo hi (r ∷ rs)
+        ≡ getD (kids-from l lo hi (r ∷ rs)) (below key (keys (r ∷ rs)) + boolByte (has key (keys (r ∷ rs)))) d
+    go further true u c v = let z = none-below key (keys (r ∷ rs)) (rw u t) in rw (u, z)
+    go further false u true v =
+        let same : key ≡ r .0 = eqb-true key (r .0) v in
+        let none : below key (keys rs) + boolByte (has key (keys rs)) ≡ 0 = rw same (none-below (r .0) (keys rs) t) in
+        rw (u, v, le-ltb (r .0) key (omega arith)) (rw none at further)
+    go further false u false v =
+        let less : r .0 < key = omega (arith, ltb-false key (r .0) u, eqb-false key (r .0) v) in
+        rw (u, v, lt-ltb (r .0) key less, suc-add) further
