@@ -2,14 +2,16 @@
 use Prim.Native.Nat.{ℕ}
 use mathlib.Core.Path.{_≡_, refl, sym, _∙_, ap}
 use mathlib.Core.List.{List}
-use mathlib.Core.Bool.{true, false}
+use mathlib.Core.Bool.{Bool, true, false, not}
+use lib.Dec.{eqb}
 use lib.ListN.{getD}
+use Rattle.words.specs.Tests.{if_then_else_}
 use Rattle.words.specs.Event.{at}
 use Rattle.words.specs.declared.refusal.Refusal.the-variants.{NoPool, Unfinished, Damaged}
 use Rattle.node.specs.Slot.{names}
 use Rattle.node.specs.View.{value-at}
 use Rattle.tree.specs.Header.{commit-of, form-agrees}
-use Rattle.tree.specs.Path.{way-to}
+use Rattle.tree.specs.Path.{Way, failed, leaf, way-to}
 use Rattle.tree.specs.declared.descend.Descent.{Descent}
 use Rattle.tree.specs.Descended.{Descended}
 use Rattle.tree.proofs.Leaves.{AtLeaf, find-absent, found-value}
@@ -48,3 +50,15 @@ module _ (m : List ℕ) (key : ℕ) where
             → Found v ≡ fetch-answer m key
         fetch-found t e v =
             says (gate-open refused body m f z ∙ way-found m key d (fetch-at m key) a ∙ rw (found-value a t e v) refl)
+
+-- a fetch plans nothing, whatever it answers
+pub fetch-quiet : (m : List ℕ) (key : ℕ) → fetch m key ≡ quiet (fetch m key .answer)
+fetch-quiet m key = go (form-agrees m) (eqb (commit-of m) 0) (way-to m key)
+  where
+    go : (a b : Bool) (w : Way)
+        → let p = if not a then refused NoPool else if not b then refused Unfinished else at-leaf (fetch-at m key) w in
+        p ≡ quiet (p .answer)
+    go false b w = refl
+    go true false w = refl
+    go true true (failed node) = refl
+    go true true (leaf k above) = refl

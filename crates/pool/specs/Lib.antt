@@ -3,4 +3,6 @@ pub mod Promises
 pub mod Demand1
 pub mod Demand2
 pub mod Formatting
+pub mod Puts
+pub mod Splitting
 pub mod Checking

@@ -1,13 +1,25 @@
 // The calls on one pool, a module each.
 mod answers;
+mod building;
 mod checking;
+mod crowded;
 mod deleting;
 mod fetching;
 mod formatting;
+mod logging;
+mod most;
+mod opening;
+mod putting;
 mod recovering;
+mod rising;
+mod serving;
+mod splitting;
 
 pub use checking::check;
 pub use deleting::delete;
 pub use fetching::fetch;
 pub use formatting::format;
+pub use most::Splits;
+pub use putting::put;
 pub use recovering::recover;
+pub use serving::serve;

@@ -110,6 +110,7 @@ module _ (m : List ℕ) (key : ℕ) where
   fault-is : {n : ℕ} (d : Descent) → d .found ≡ false → d .«at_fault» ≡ n → way-to m key ≡ failed n → Descended m key d
   fault-is d f e w = record {
     way-is = w ∙ rw (f, e) refl;
+    eight-is = λ t. absurd (differ (sym t ∙ f));
     first-is = λ t. absurd (differ (sym t ∙ f));
     slot-is = λ t. absurd (differ (sym t ∙ f));
     rank-is = λ t. absurd (differ (sym t ∙ f));
@@ -147,6 +148,7 @@ module _ (m : List ℕ) (key : ℕ) where
         leaf-is z w d e = rw (e, z) (record {
           way-is = o .rest ∙ good-leaf m key (under node cover) (above m left path) used left z (sym (l .good-is) ∙ t)
               ∙ ap (leaf node) (rw (z, sub-zero, drop-set-lt 1 path 0 node (omega arith)) refl);
+          eight-is = λ h. length-set path 0 node ∙ o .eight;
           first-is = λ h. getD-set-same path 0 node 0 (omega (arith, o .eight));
           slot-is = λ h. w;
           rank-is = λ h. l .rank-is t;

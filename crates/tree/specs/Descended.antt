@@ -3,7 +3,7 @@ use Prim.Native.Nat.{ℕ, _≤_}
 use mathlib.Core.Path.{_≡_}
 use mathlib.Core.List.{List}
 use mathlib.Core.Bool.{true}
-use lib.ListN.{getD, take, drop}
+use lib.ListN.{length, getD, take, drop}
 use Rattle.words.specs.Tests.{if_then_else_}
 use Rattle.words.specs.Event.{at}
 use Rattle.node.specs.Lists.{has, below, all-below}
@@ -50,6 +50,7 @@ way-of m d = if d .found then leaf (d .leaf) (take (levels-above m) (drop 1 (d .
 -- the answer to the way down to a key: the way itself and, where it found the leaf, the leaf's slot word, and the key's place in it
 pub record Descended (m : List ℕ) (key : ℕ) (d : Descent) : Type 0 where
   pub way-is : way-to m key ≡ way-of m d
+  pub eight-is : d .found ≡ true → length (d .path) ≡ 8
   pub first-is : d .found ≡ true → getD (d .path) 0 0 ≡ d .leaf
   pub slot-is : d .found ≡ true → d .slot ≡ at m (slot-at (d .leaf))
   pub rank-is : d .found ≡ true → d .rank ≡ below key (keys (view m (d .leaf) .records))

@@ -1,0 +1,7 @@
+pub mod Desk
+pub mod Turn
+pub mod Answers
+pub mod Parts
+pub mod Rows
+pub mod Demand3
+pub mod OurPools

@@ -1,0 +1,71 @@
+// The chosen desk is served.
+use crate::answer::Turn;
+use crate::answer::Turned;
+use crate::choosing::Chosen;
+use crate::choosing::looked_at;
+use crate::desk::Desk;
+use words::Pool;
+use words::Refusal;
+ghost use mathlib.Core.Path.{_≡_};
+ghost use Rattle.words.specs.Carry.{after-all};
+ghost use Rattle.desk.specs.Turn.{serve-turn, unserved};
+
+// All events of the list up to a number, one after the other.
+fn carry_all(pool: &mut [u64], list: &[u64], events: u64)
+    ensures { λ _. ⌜ now (pool .exit) ≡ after-all (now (pool .entry)) (now (list .entry)) 1 events ⌝ }
+{
+    let mut n = 0;
+    while n < events {
+        n += 1;
+        words::carry_out(pool, list, n);
+    }
+}
+
+// An answer with no member served.
+fn nobody(turned: Turned, last: u64) -> Turn
+    ensures { λ r. ⌜ r ≡ unserved last turned ⌝ }
+{
+    Turn {
+        turned: turned,
+        member: 0,
+        events: 0,
+        last: last,
+    }
+}
+
+// A turn on so many desks, of which one is chosen.
+pub fn serve_chosen(
+    pool: &mut [u64],
+    list: &mut [u64],
+    desks: usize,
+    last: u64,
+    chosen: Chosen,
+) -> Turn
+    ensures { λ r. ⌜ (r ≡ serve-turn (now (pool .entry)) (now (list .entry)) desks last (chosen .member) (chosen .desk) .answer)
+        × (now (pool .exit) ≡ serve-turn (now (pool .entry)) (now (list .entry)) desks last (chosen .member) (chosen .desk) .pool)
+        × (now (list .exit) ≡ serve-turn (now (pool .entry)) (now (list .entry)) desks last (chosen .member) (chosen .desk) .list) ⌝ }
+{
+    if looked_at(desks, last) == 0 {
+        return nobody(Turned::Refused(Refusal::NoDesk), last);
+    }
+    if (list.len() as u64) < Pool::LIST_WORDS {
+        return nobody(Turned::Refused(Refusal::ShortList), last);
+    }
+    let member = chosen.member;
+    let desk = chosen.desk;
+    match desk {
+        Desk::Empty => nobody(Turned::Idle, last),
+        Desk::Holding(request) => {
+            let answer = pool::serve(pool, list, request);
+            let outcome = answer.outcome;
+            let events = answer.events;
+            carry_all(pool, list, events);
+            Turn {
+                turned: Turned::Served(outcome),
+                member: member,
+                events: events,
+                last: member,
+            }
+        }
+    }
+}

@@ -1,0 +1,43 @@
+-- What the steps of a put ask of the leaf.
+use Prim.Native.Nat.{ℕ}
+use mathlib.Core.Path.{_≡_}
+use mathlib.Core.List.{List}
+use mathlib.Core.Bool.{true, false}
+use lib.ListN.{take, drop}
+use Rattle.words.specs.Written.{Wrote}
+use Rattle.node.specs.Slot.{count, names, entries}
+use Rattle.node.specs.View.{Record, View}
+use Rattle.tree.specs.Header.{form-agrees}
+use Rattle.tree.specs.Path.{levels-above}
+use Rattle.tree.specs.declared.descend.Descent.{Descent}
+use Rattle.tree.specs.Descended.{Descended}
+use Rattle.change.specs.declared.Outcome.{Outcome}
+use Rattle.change.specs.Gate.{Planned}
+use Rattle.change.specs.Steps.{rank}
+use Rattle.change.specs.Put.{replace-events, fill-events, put-at}
+
+-- a leaf that says u has the slot word w, and a key its place there
+pub record Says (u : View) (w key place : ℕ) : Type 0 where
+  pub names-are : u .named ≡ names w
+  pub rank-is : rank u key ≡ place
+
+-- a step handed the list l wrote the events of a present key's put, whatever node and key it stands for
+abbrev pub Replaces : ℕ → ℕ → ℕ → ℕ → List ℕ → ℕ → List ℕ → Type 0
+Replaces k w place value l r l′ =
+    (u : View) (key : ℕ) → Says u w key place → Wrote (replace-events k u (key, value)) 0 l r l′
+
+-- and those of a put into a leaf that is not full
+abbrev pub Fills : ℕ → ℕ → ℕ → Record → List ℕ → ℕ → List ℕ → Type 0
+Fills k w place x l r l′ = (u : View) → Says u w (x .0) place → Wrote (fill-events k u x) 0 l r l′
+
+-- the way down to a key found its leaf, which is full and has not the key
+pub record Full (m : List ℕ) (key : ℕ) (d : Descent) : Type 0 where
+  pub form-is : form-agrees m ≡ true
+  pub way : Descended m key d
+  pub found : d .found ≡ true
+  pub absent : d .there ≡ false
+  pub full : count (d .slot) ≡ entries
+
+-- what a put does there
+abbrev pub put-full : List ℕ → ℕ → ℕ → Descent → Planned Outcome
+put-full m key value d = put-at m key value (d .leaf) (take (levels-above m) (drop 1 (d .path)))

@@ -1,0 +1,85 @@
+// Put: a key and its value into the leaf of the key.
+use crate::answers::quiet;
+use crate::crowded::put_full;
+use change::Answer;
+use change::Outcome;
+use node::Node;
+use node::slot::count;
+use node::slot::name;
+use node::slot::spot;
+use node::slot::with_name;
+use tree::descend::descend;
+use tree::header::form_agrees;
+use words::Pool;
+use words::Refusal;
+use words::write_fence;
+use words::write_flush;
+use words::write_once;
+use words::write_store;
+ghost use Prim.Native.Nat.{_≤_, _<_};
+ghost use mathlib.Core.Path.{_≡_};
+ghost use mathlib.Core.Bool.{true};
+ghost use lib.ListN.{length};
+ghost use Rattle.words.specs.Pool as p;
+ghost use Rattle.node.specs.Lists.{all-below};
+ghost use Rattle.node.specs.Slot as s;
+ghost use Rattle.change.specs.Calls.{put-answer, put-list};
+ghost use Rattle.pool.specs.Puts.{Replaces, Fills};
+
+// A present key: its value is stored.
+fn replace(list: &mut [u64], leaf: u64, slot: u64, rank: u64, value: u64) -> u64
+    requires { ⌜ (p.list-words ≤ length (now list)) × (leaf ≤ p.capacity-most) ⌝ }
+    requires { ⌜ (rank < s.count slot) × (s.count slot ≤ s.entries) × (all-below s.entries (s.names slot) ≡ true) ⌝ }
+    ensures { λ r. ⌜ Replaces leaf slot rank value (now (list .entry)) r (now (list .exit)) ⌝ }
+{
+    let word = Node::value_at(leaf, name(slot, rank));
+    write_once(list, 0, word, value)
+}
+
+// A leaf that is not full: key and value into the lowest unused entry, then the slot word.
+fn fill(list: &mut [u64], leaf: u64, slot: u64, rank: u64, key: u64, value: u64) -> u64
+    requires { ⌜ (p.list-words ≤ length (now list)) × (leaf ≤ p.capacity-most) × (rank ≤ s.count slot) × (s.count slot < s.entries) ⌝ }
+    ensures { λ r. ⌜ Fills leaf slot rank (key, value) (now (list .entry)) r (now (list .exit)) ⌝ }
+{
+    let entry = spot(slot);
+    let word = Node::value_at(leaf, entry);
+    let n1 = write_store(list, 0, Node::key_at(leaf, entry), key);
+    let n2 = write_store(list, n1, word, value);
+    let n3 = write_flush(list, n2, Pool::line(word));
+    let n4 = write_fence(list, n3);
+    write_once(list, n4, Pool::node_at(leaf), with_name(slot, rank, entry))
+}
+
+pub fn put(pool: &[u64], list: &mut [u64], key: u64, value: u64) -> Answer
+    ensures answer { λ r. ⌜ r ≡ put-answer (now (pool .entry)) (now (list .entry)) key value ⌝ }
+    ensures list { λ _. ⌜ now (list .exit) ≡ put-list (now (pool .entry)) (now (list .entry)) key value ⌝ }
+{
+    if (list.len() as u64) < Pool::LIST_WORDS {
+        return quiet(Outcome::Refused(Refusal::ShortList));
+    }
+    if !form_agrees(pool) {
+        return quiet(Outcome::Refused(Refusal::NoPool));
+    }
+    if pool[Pool::COMMIT_AT as usize] != 0 {
+        return quiet(Outcome::Refused(Refusal::Unfinished));
+    }
+    let way = descend(pool, key);
+    if !way.found {
+        return quiet(Outcome::Refused(Refusal::Damaged));
+    }
+    if way.there {
+        let events = replace(list, way.leaf, way.slot, way.rank, value);
+        return Answer {
+            outcome: Outcome::Replaced,
+            events,
+        };
+    }
+    if count(way.slot) < Node::ENTRIES {
+        let events = fill(list, way.leaf, way.slot, way.rank, key, value);
+        return Answer {
+            outcome: Outcome::New,
+            events,
+        };
+    }
+    put_full(pool, list, way, key, value)
+}
