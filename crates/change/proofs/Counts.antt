@@ -4,17 +4,19 @@ use mathlib.Core.Path.{_≡_, refl, ap}
 use mathlib.Core.List.{List, [], _∷_, _++_}
 use mathlib.Core.Bool.{Bool, true, false}
 use native.Mathlib.Omega.{arith}
-use lib.ListN.{length, take, drop, length-append, length-drop, length-map, take-append-drop}
+use lib.ListN.{length, drop, length-append, length-drop}
 use lib.Dec.{ltb}
 use borrow.Author.Tests.{eqb-true}
 use Rattle.words.specs.Tests.{if_then_else_}
 use Rattle.words.specs.Pool.{used-at}
 use Rattle.words.specs.Blocks.{Pair, lines, stored}
+use Rattle.words.proofs.Tests.{at-most-one}
 use Rattle.words.proofs.Blocks.{length-replay}
-use Rattle.node.specs.Lists.{insert}
 use Rattle.node.specs.Slot.{entries}
-use Rattle.node.specs.View.{Record, View, view, entry, slot-at, link-at}
+use Rattle.node.specs.View.{Record, View, view, slot-at, link-at}
+use Rattle.node.proofs.Places.{length-insert}
 use Rattle.tree.specs.Header.{root-of}
+use Rattle.tree.proofs.Fits.{view-sized}
 use Rattle.change.specs.Steps.{rank, full, entry-pairs, taken-slot, parent-spot, new-node, lower, eight, fifth, staying-pairs}
 use Rattle.change.specs.Plan.{Plan, new-nodes, log-written, log-replayed, log-finished, log-events, plan-events}
 use Rattle.change.specs.Format.{format-events}
@@ -49,21 +51,13 @@ unfolding format-events stored lines
 format-count capacity = refl
 
 -- a full node and a new record make eight
-length-insert : {A : Type 0} (i : ℕ) (x : A) (xs : List A) → length (insert i x xs) ≡ suc (length xs)
-length-insert i x xs =
-    omega (arith, length-append (take i xs) (x ∷ drop i xs), length-append (take i xs) (drop i xs), ap length (take-append-drop i xs))
-
-same-length : (m : List ℕ) (k : ℕ) → length (view m k .records) ≡ length (view m k .named)
-unfolding view
-same-length m k = length-map (view m k .named) (entry m k)
-
-length-eight : (m : List ℕ) (k : ℕ) (r : Record) → full (view m k) ≡ true → length (eight (view m k) r) ≡ 8
+pub length-eight : (m : List ℕ) (k : ℕ) (r : Record) → full (view m k) ≡ true → length (eight (view m k) r) ≡ 8
 length-eight m k r t =
     omega (
       arith,
       length-insert (rank (view m k) (r .0)) r (view m k .records),
       eqb-true (length (view m k .named)) entries t,
-      same-length m k,
+      view-sized m k,
     )
 
 -- the pairs of a split level: two more if its new record stays
@@ -72,11 +66,7 @@ stays u r = if ltb (rank u (r .0)) lower then 1 else 0
 
 stays-one : (u : View) (r : Record) → stays u r ≤ 1
 unfolding stays
-stays-one u r = go (ltb (rank u (r .0)) lower)
-  where
-    go : (b : Bool) → (if b then 1 else 0) ≤ 1
-    go true = omega arith
-    go false = omega arith
+stays-one u r = at-most-one (ltb (rank u (r .0)) lower)
 
 length-staying : (k : ℕ) (u : View) (r : Record) (ws : List Pair) → length (staying-pairs k u r ws) ≡ 2 * stays u r + length ws + 1
 unfolding staying-pairs stays
@@ -85,6 +75,9 @@ length-staying k u r ws = go (ltb (rank u (r .0)) lower) refl
     go : (b : Bool) → ltb (rank u (r .0)) lower ≡ b → length (staying-pairs k u r ws) ≡ 2 * stays u r + length ws + 1
     go true t = simp (t, length-append) (omega arith)
     go false t = simp (t, length-append) (omega arith)
+
+pub staying-few : (k : ℕ) (u : View) (r : Record) (ws : List Pair) → length (staying-pairs k u r ws) ≤ 3 + length ws
+staying-few k u r ws = omega (arith, length-staying k u r ws, stays-one u r)
 
 module _ (m : List ℕ) (k : ℕ) (above : List ℕ) where
   -- a level that is full splits, the first that is not takes the record

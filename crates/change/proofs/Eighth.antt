@@ -4,17 +4,17 @@ use mathlib.Core.Path.{_≡_}
 use mathlib.Core.List.{List, [], _∷_, _++_, map}
 use mathlib.Core.Bool.{_&&_}
 use lib.Dec.{T, eqb, eqb→eq}
+use Rattle.words.specs.Lists.{count-from}
 use Rattle.words.specs.Pool.{list-words, used-at, root-at, height-at}
 use Rattle.words.specs.Event.{run}
 use Rattle.words.specs.Blocks.{Pair, stores}
-use Rattle.node.specs.Lists.{count-from}
+use Rattle.words.proofs.Tests.{both-hold}
 use Rattle.tree.specs.Lists.{gather}
 use Rattle.change.specs.Answers.{outcome-says}
 use Rattle.change.specs.Steps.{new-node}
 use Rattle.change.specs.Put.{put}
 use Rattle.change.specs.Sums.{fresh}
 use Rattle.change.proofs.Opened.{opened}
-use Rattle.change.proofs.Rows.{both}
 
 -- node k, full, with each child the next node, and keys above those of the nodes before
 abbrev level : ℕ → List Pair
@@ -35,7 +35,7 @@ tests = tt
 
 -- nine nodes are needed: with eight left it is refused for room, with nine for its eight full levels
 pub eight-left : refusal 16 ≡ 5
-eight-left = eqb→eq (refusal 16) 5 (both (eqb (refusal 16) 5) (eqb (refusal 17) 4) tests .0)
+eight-left = eqb→eq (refusal 16) 5 (both-hold (eqb (refusal 16) 5) (eqb (refusal 17) 4) tests .0)
 
 pub nine-left : refusal 17 ≡ 4
-nine-left = eqb→eq (refusal 17) 4 (both (eqb (refusal 16) 5) (eqb (refusal 17) 4) tests .1)
+nine-left = eqb→eq (refusal 17) 4 (both-hold (eqb (refusal 16) 5) (eqb (refusal 17) 4) tests .1)

@@ -10,10 +10,12 @@ use lib.Seq.{length-take-le, take-append-le, take-take}
 use lib.Dec.{ltb}
 use borrow.Author.Tests.{lt-ltb, ltb-true, ltb-false}
 use Rattle.words.specs.Tests.{if_then_else_}
+use Rattle.words.specs.Lists.{count-from}
 use Rattle.words.specs.Event.{at}
 use Rattle.words.specs.Blocks.{Pair}
 use Rattle.words.proofs.Blocks.{Off}
-use Rattle.node.specs.Lists.{insert, count-from, has, all-below, different}
+use Rattle.words.proofs.Lists.{length-from}
+use Rattle.node.specs.Lists.{insert, has, all-below, different}
 use Rattle.node.specs.Slot.{entries, slot}
 use Rattle.node.specs.View.{Record, View, view, entry, keys, slot-at, link-at, key-at, value-at}
 use Rattle.node.proofs.Digits.{bytes-take}
@@ -25,7 +27,6 @@ use Rattle.node.proofs.Ranks.{below-length}
 use Rattle.node.proofs.Spots.{lowest-below, lowest-new}
 use Rattle.node.proofs.Views.{map-same}
 use Rattle.tree.proofs.Lists.{each-right}
-use Rattle.tree.proofs.Occurs.{length-from}
 use Rattle.tree.proofs.Fits.{Named, Says}
 use Rattle.change.specs.Steps.{rank, entry-pairs, laid, new-node, lower, eight, staying-spot, lower-slot, staying-pairs}
 use Rattle.change.proofs.Pairs.{Stand, Stands, off-append}

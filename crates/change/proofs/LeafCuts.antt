@@ -30,18 +30,19 @@ use Rattle.change.proofs.Leaf.{used-inside, leaf-range, deleted-goes, d
 use Rattle.change.proofs.Unread.{entry-unread}
 use Rattle.change.proofs.Survives.{Under, Survives, recovery-none, accepts-clean, commit-survives}
 
--- no events
-pub none-survives : {m : List ℕ} → WellFormed m → Survives m []
-none-survives {m} w = record {
-  accepts = λ f. rw (found f) (accepts-clean w);
-  leaves = λ f. inr (rw (found f, recovery-none w));
-  last = λ b f. rw (found f, recovery-none w);
-  safe = λ x. settled-safe m [] x tt;
-  under = tt;
-}
-  where
-    found : {n : ℕ} {m′ : List ℕ} → Found recovery m [] n m′ → m′ ≡ m
-    found {n} = found-quiet (λ m′. m′ ≡ m) (λ m′ c. cut-quiet n refl c) (λ m′ e. rw e (recovery-none w))
+-- no events: what is found is what stood there
+module _ {m : List ℕ} (w : WellFormed m) where
+  pub none-found : {n : ℕ} {m′ : List ℕ} → Found recovery m [] n m′ → m′ ≡ m
+  none-found {n} = found-quiet (λ m′. m′ ≡ m) (λ m′ c. cut-quiet n refl c) (λ m′ e. rw e (recovery-none w))
+
+  pub none-survives : Survives m []
+  none-survives = record {
+    accepts = λ f. rw (none-found f) (accepts-clean w);
+    leaves = λ f. inr (rw (none-found f, recovery-none w));
+    last = λ b f. rw (none-found f, recovery-none w);
+    safe = λ x. settled-safe m [] x tt;
+    under = tt;
+  }
 
 module _ {m : List ℕ} {key : ℕ} (w : WellFormed m) (y : Reached m key) where
   abbrev k : ℕ

@@ -5,17 +5,16 @@ use mathlib.Core.List.{List, [], _∷_}
 use mathlib.Core.Bool.{Bool, true, false, not}
 use native.Mathlib.Omega.{arith}
 use lib.ListN.{length, length-append}
-use lib.Dec.{ltb, leb, eqb}
-use borrow.Author.Tests.{ltb-false, leb-true, not-false}
+use lib.Dec.{ltb, eqb}
+use borrow.Author.Tests.{ltb-false, not-false}
 use Rattle.words.specs.Tests.{if_then_else_, within}
-use Rattle.words.specs.Pool.{pairs-at, pairs-most, capacity-most, total-of, list-words, height-most, events-most, line}
+use Rattle.words.specs.Pool.{pairs-at, capacity-most, total-of, list-words, height-most, events-most, line}
 use Rattle.words.specs.Blocks.{lines}
 use Rattle.words.proofs.Blocks.{length-stored}
 use Rattle.node.specs.Lists.{has}
 use Rattle.node.specs.View.{Record, View, view, keys, key-at, value-at}
-use Rattle.tree.specs.Header.{total-in, capacity-of, used-of, commit-of, form-agrees}
+use Rattle.tree.specs.Header.{capacity-of, used-of, commit-of, form-agrees}
 use Rattle.tree.specs.Path.{Way, failed, leaf, way-to}
-use Rattle.words.proofs.Tests.{both}
 use Rattle.tree.proofs.Form.{counts}
 use Rattle.tree.proofs.Path.{way-to-counts, way-to-length}
 use Rattle.change.specs.declared.Request.{Request}
@@ -25,7 +24,7 @@ use Rattle.change.specs.Gate.{Planned, refused, past-list, past-gate, at
 use Rattle.change.specs.Steps.{full, entry-pairs, fill-spot}
 use Rattle.change.specs.Plan.{log-finished, plan-events}
 use Rattle.change.specs.Format.{format-past-list, format}
-use Rattle.change.specs.Recover.{log-pairs, all-may-store, log-agrees, recover-past-form, recover}
+use Rattle.change.specs.Recover.{log-pairs, log-agrees, recover-past-form, recover}
 use Rattle.change.specs.Fetch.{fetch-at}
 use Rattle.change.specs.Delete.{delete-at}
 use Rattle.change.specs.Put.{fill-events, split, needed, put-at}
@@ -34,14 +33,15 @@ use Rattle.change.specs.Most.{split-levels, Most, Fits}
 use Rattle.change.proofs.Counts.{finished-count, length-log-pairs, format-count}
 use Rattle.change.proofs.Counts.{levels-full, levels-room, needed-full, needed-room, no-more}
 use Rattle.change.proofs.Worst.{reached}
+use Rattle.change.proofs.Recover.{log-says}
 
 -- the levels split, the new root, and the length of the path
-record Depth (m path : List ℕ) : Type 0 where
-  low : split-levels m path ≤ needed m path
-  high : needed m path ≤ split-levels m path + 1
-  long : split-levels m path + 1 ≤ length path + (needed m path - split-levels m path)
+pub record Depth (m path : List ℕ) : Type 0 where
+  pub low : split-levels m path ≤ needed m path
+  pub high : needed m path ≤ split-levels m path + 1
+  pub long : split-levels m path + 1 ≤ length path + (needed m path - split-levels m path)
 
-depth : (m path : List ℕ) → Depth m path
+pub depth : (m path : List ℕ) → Depth m path
 depth m [] = unfold split-levels needed in (record { low = omega arith; high = omega arith; long = omega arith })
 depth m (k ∷ above) = go (depth m above) (full (view m k)) refl
   where
@@ -54,13 +54,6 @@ depth m (k ∷ above) = go (depth m above) (full (view m k)) refl
         let e = levels-room m k above t in
         let f = needed-room m k above t in
         record { low = omega arith; high = omega arith; long = omega arith }
-
--- the log of a recovery has at most 31 pairs
-few-pairs : (m : List ℕ) → log-agrees m ≡ true → commit-of m ≤ pairs-most
-unfolding log-agrees
-few-pairs m t =
-    leb-true (commit-of m) pairs-most
-    (both {a = leb (commit-of m) pairs-most} {b = all-may-store (total-in m) (log-pairs (commit-of m) pairs-at m)} t .0)
 
 -- a plan of at most 186 events
 abbrev Small : {A : Type 0} → Planned A → Type 0
@@ -135,7 +128,7 @@ recover-small m =
           arith,
           finished-count (log-pairs (commit-of m) pairs-at m),
           length-log-pairs (commit-of m) pairs-at m,
-          few-pairs m t,
+          log-says m t .0,
         )
 
 recovers : (room : ℕ) (m : List ℕ) → Small (recover room m)

@@ -7,13 +7,14 @@ use mathlib.Core.Bool.{Bool, true, false}
 use native.Mathlib.Omega.{arith}
 use lib.ListN.{length, set, length-set}
 use lib.Seq.{getD-set-same, getD-set-other}
-use borrow.Author.Tests.{le-ltb, lt-ltb, le-leb, ne-eqb}
+use lib.Dec.{leb}
+use borrow.Author.Tests.{le-ltb, lt-ltb, le-leb, leb-true, ne-eqb}
 use Rattle.words.specs.Tests.{within}
 use Rattle.words.specs.Pool.{used-at, log-at, nodes-at, commit-at, pairs-at, pairs-most, list-words}
 use Rattle.words.specs.Event.{fence, at, run}
 use Rattle.words.specs.Blocks.{Pair, once, stores, replay}
 use Rattle.words.specs.declared.refusal.Refusal.the-variants.{NoPool}
-use Rattle.words.proofs.Tests.{within-says, fails}
+use Rattle.words.proofs.Tests.{both, within-says, fails}
 use Rattle.words.proofs.Events.{run-off}
 use Rattle.words.proofs.Blocks.{Off, stores-stores}
 use Rattle.words.proofs.Logged.{redo}
@@ -104,6 +105,14 @@ log-same (suc n) w m m′ h =
       h (w + 1) (omega arith) (omega arith),
       log-same n (w + 2) m m′ (λ x p q. h x (omega arith) (omega arith)),
     )
+
+-- a log that passes its test has at most 31 pairs, and each address may be stored to
+pub log-says : (m : List ℕ) → log-agrees m ≡ true
+    → (commit-of m ≤ pairs-most) × (all-may-store (total-in m) (log-pairs (commit-of m) pairs-at m) ≡ true)
+unfolding log-agrees
+log-says m t =
+    let b = both {a = leb (commit-of m) pairs-most} {b = all-may-store (total-in m) (log-pairs (commit-of m) pairs-at m)} t in
+    (leb-true (commit-of m) pairs-most (b .0), b .1)
 
 -- a committed log is accepted: "Recovered with the pair count c", and the events are those of its pairs
 pub recover-logged : (m : List ℕ) (ps : List Pair) → form-agrees m ≡ true → commit-of m ≡ length ps → 1 ≤ length ps

@@ -4,18 +4,14 @@ use mathlib.Core.Path.{_≡_, refl, ap₂}
 use mathlib.Core.List.{List, [], _∷_}
 use mathlib.Core.Bool.{Bool, true, false, _&&_}
 use lib.Dec.{T, eqb, eqb→eq}
+use Rattle.words.specs.Lists.{same}
+use Rattle.words.proofs.Tests.{both-hold}
 use Rattle.change.specs.declared.Outcome.{Outcome}
 use Rattle.change.specs.declared.Outcome.the-variants.{New, Replaced, Removed, Absent, Found, Refused}
 use Rattle.change.specs.Answers.{Said}
 use Rattle.change.specs.Sums.{Row, numbers, outcome, says, cut-after, Agrees, AllAgree}
 
 -- rows without cuts as tests, which compute
-unfoldable pub same : List ℕ → List ℕ → Bool
-same [] [] = true
-same [] (y ∷ ys) = false
-same (x ∷ xs) [] = false
-same (x ∷ xs) (y ∷ ys) = eqb x y && same xs ys
-
 unfoldable pub is-new : Outcome → Bool
 is-new New = true
 is-new Replaced = false
@@ -53,17 +49,13 @@ tests [] = true
 tests (r ∷ rs) = test r && tests rs
 
 -- and the rows agree where the tests hold
-pub both : (a b : Bool) → T (a && b) → T a × T b
-both true b t = (tt, t)
-both false b t = absurd t
-
 pub same-is : (a b : List ℕ) → T (same a b) → a ≡ b
 unfolding same
 same-is [] [] t = refl
 same-is [] (y ∷ ys) t = absurd t
 same-is (x ∷ xs) [] t = absurd t
 same-is (x ∷ xs) (y ∷ ys) t =
-    let h = both (eqb x y) (same xs ys) t in
+    let h = both-hold (eqb x y) (same xs ys) t in
     ap₂ (λ (n : ℕ) (l : List ℕ). n ∷ l) (eqb→eq x y (h .0)) (same-is xs ys (h .1))
 
 new-is : (b : Outcome) → T (is-new b) → New ≡ b
@@ -95,7 +87,7 @@ outcome-is (Refused r) b t = absurd t
 
 says-is : (a b : Said) → T (eqb (a .0) (b .0) && same (a .1) (b .1)) → a ≡ b
 says-is a b t =
-    let h = both (eqb (a .0) (b .0)) (same (a .1) (b .1)) t in
+    let h = both-hold (eqb (a .0) (b .0)) (same (a .1) (b .1)) t in
     ap₂ (λ (n : ℕ) (l : List ℕ). (n, l)) (eqb→eq (a .0) (b .0) (h .0)) (same-is (a .1) (b .1) (h .1))
 
 agrees : (r : Row) → T (test r) → Agrees r
@@ -108,4 +100,4 @@ agrees (cut-after n l) t = absurd t
 pub all-agree : (rs : List Row) → T (tests rs) → AllAgree rs
 unfolding tests
 all-agree [] t = tt
-all-agree (r ∷ rs) t = let h = both (test r) (tests rs) t in (agrees r (h .0), all-agree rs (h .1))
+all-agree (r ∷ rs) t = let h = both-hold (test r) (tests rs) t in (agrees r (h .0), all-agree rs (h .1))

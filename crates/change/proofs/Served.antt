@@ -21,9 +21,8 @@ use Rattle.tree.specs.Path.{leaf}
 use Rattle.tree.specs.WellFormed.{WellFormed}
 use Rattle.tree.specs.Map.{map-of}
 use Rattle.tree.proofs.Hole.{above}
-use Rattle.tree.proofs.Find.{find-absent, find-present}
 use Rattle.tree.proofs.Way.{Reached, reach}
-use Rattle.tree.proofs.Map.{map-at}
+use Rattle.tree.proofs.Map.{map-at, map-present, map-absent}
 use Rattle.tree.proofs.After.{After}
 use Rattle.tree.proofs.Count.{split-needs}
 use Rattle.change.specs.declared.Request.{Request}
@@ -63,10 +62,7 @@ module _ {m : List ℕ} (w : WellFormed m) where
     k = y .place .number
 
     is-there : has key (keys (view m (y .place .number) .records)) ≡ true → (old : ℕ) × (map-of m key ≡ some old)
-    is-there h = (_, map-at y ∙ find-present key (view m k .records) (leaf-node w y .rises) h)
-
-    not-there : has key (keys (view m (y .place .number) .records)) ≡ false → map-of m key ≡ none
-    not-there h = map-at y ∙ find-absent key (view m k .records) h
+    is-there h = (_, map-present y h)
 
     delete-leaves : Deletes m key (delete-at m key (y .place .number) (above (y .up)))
     unfolding delete-at
@@ -74,7 +70,7 @@ module _ {m : List ℕ} (w : WellFormed m) where
       where
         go : (b : Bool) → has key (keys (view m k .records)) ≡ b → Deletes m key (delete-at m key k (above (y .up)))
         go true t = let o = is-there t in rw t (removed (o .0) (o .1) refl (deleted w y t))
-        go false t = rw t (absent (not-there t) refl)
+        go false t = rw t (absent (map-absent y t) refl)
 
     -- a crowded key is at this leaf
     crowded-here : LacksRoom m key
@@ -89,21 +85,21 @@ module _ {m : List ℕ} (w : WellFormed m) where
     put-leaves value p (replaces t) = let o = is-there t in present (o .0) (o .1) refl (replaced w y t value)
     put-leaves value p (fills t f) =
         let e = eqb-false (length (view m k .named)) entries f in
-        new (not-there t) (λ c. differ (sym (crowded-here c .0) ∙ f)) refl
+        new (map-absent y t) (λ c. differ (sym (crowded-here c .0) ∙ f)) refl
         (filled w y value (omega (arith, leaf-node w y .names .few)) t)
     put-leaves value p (crowded t f s) =
         let lacks : LacksRoom m key = record {
           node = k;
           above = above (y .up);
           way = y .is;
-          absent = not-there t;
+          absent = map-absent y t;
           is-full = f;
           short = s;
         } in
         too-full lacks refl
     put-leaves value p (too-high h) = absurd (omega (arith, needed-needs m (k ∷ above (y .up)), split-needs w y))
     put-leaves value p (splits t f s) =
-        new (not-there t) (λ c. omega (arith, crowded-here c .1)) refl (split-leaves w y value f s t)
+        new (map-absent y t) (λ c. omega (arith, crowded-here c .1)) refl (split-leaves w y value f s t)
 
   module _ (room key : ℕ) (long : list-words ≤ room) (small : key < no-end) where
     pub delete-served : Deletes m key (delete room m key)

@@ -6,12 +6,13 @@ use mathlib.Core.List.{List, [], _∷_, _++_}
 use mathlib.Core.Bool.{Bool, true, false, _&&_, _||_}
 use lib.ListN.{length, take}
 use lib.Dec.{T, eqb, eqb→eq}
+use Rattle.words.proofs.Tests.{both-hold}
 use Rattle.words.proofs.AllCuts.{cuts, every, every-cut, any, some-cut}
 use Rattle.node.specs.View.{Record}
 use Rattle.change.specs.Sums.{Left, Row, cut-after, Agrees, before, after, recovered, less-30, putting-35, Leaves, AllAgree, Sums}
 use Rattle.change.specs.Sums.{leaf-rows, split-rows, room-rows, refusal-rows, cut-rows, rows}
 use Rattle.change.proofs.Opened.{opened}
-use Rattle.change.proofs.Rows.{tests, both, all-agree}
+use Rattle.change.proofs.Rows.{tests, all-agree}
 
 leaf-tests : T (tests leaf-rows)
 unfolding opened leaf-rows tests
@@ -42,8 +43,8 @@ same-records-are [] [] t = refl
 same-records-are [] (s ∷ ss) t = absurd t
 same-records-are (r ∷ rs) [] t = absurd t
 same-records-are (r ∷ rs) (s ∷ ss) t =
-    let h = both (eqb (r .0) (s .0) && eqb (r .1) (s .1)) (same-records rs ss) t in
-    let k = both (eqb (r .0) (s .0)) (eqb (r .1) (s .1)) (h .0) in
+    let h = both-hold (eqb (r .0) (s .0) && eqb (r .1) (s .1)) (same-records rs ss) t in
+    let k = both-hold (eqb (r .0) (s .0)) (eqb (r .1) (s .1)) (h .0) in
     let e : r ≡ s = ap₂ (λ (a b : ℕ). (a, b)) (eqb→eq (r .0) (s .0) (k .0)) (eqb→eq (r .1) (s .1) (k .1)) in
     ap₂ (λ (x : Record) (xs : List Record). x ∷ xs) e (same-records-are rs ss (h .1))
 

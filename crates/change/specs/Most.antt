@@ -5,8 +5,8 @@ use mathlib.Core.List.{List, [], _∷_, map}
 use mathlib.Core.Bool.{true}
 use lib.ListN.{length}
 use Rattle.words.specs.Tests.{if_then_else_}
+use Rattle.words.specs.Lists.{count-from}
 use Rattle.words.specs.Pool.{list-words, events-most}
-use Rattle.node.specs.Lists.{count-from}
 use Rattle.node.specs.View.{Record, view}
 use Rattle.change.specs.declared.Request.{Request}
 use Rattle.change.specs.Steps.{full}

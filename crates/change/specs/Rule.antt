@@ -4,7 +4,7 @@ use Prim.Native.Nat.{ℕ}
 use mathlib.Core.Option.{Option, none, some}
 use lib.Dec.{eqb}
 use Rattle.words.specs.Tests.{if_then_else_}
-use Rattle.tree.specs.Map.{Map}
+pub use Rattle.tree.specs.Map.{Map}
 use Rattle.change.specs.declared.Request.{Request}
 use Rattle.change.specs.declared.Request.the-variants.{Put, Fetch, Delete}
 use Rattle.change.specs.declared.Outcome.{Outcome}

@@ -5,8 +5,9 @@ use mathlib.Core.Bool.{Bool}
 use lib.ListN.{length, take, getD}
 use lib.Dec.{ltb, eqb}
 use Rattle.words.specs.Tests.{if_then_else_}
+use Rattle.words.specs.Lists.{count-from}
 use Rattle.words.specs.Blocks.{Pair}
-use Rattle.node.specs.Lists.{insert, remove, count-from, below}
+use Rattle.node.specs.Lists.{insert, remove, below}
 use Rattle.node.specs.Slot.{slot, entries, spot}
 use Rattle.node.specs.View.{Record, View, keys, slot-at, link-at, key-at, value-at}
 

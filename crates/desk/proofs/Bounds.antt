@@ -1,36 +1,33 @@
 -- What the tests of refusal 9 say.
 use Prim.Native.Nat.{ℕ, _≤_, _<_}
 use mathlib.Core.Path.{_≡_, refl}
-use mathlib.Core.Bool.{Bool, true, false, _&&_}
+use mathlib.Core.Bool.{Bool, true, false}
 use native.Mathlib.Omega.{arith}
 use lib.Dec.{leb}
 use borrow.Author.Tests.{le-leb, leb-true}
-use Rattle.words.specs.Tests.{if_then_else_}
+use Rattle.words.specs.Tests.{if_then_else_, within}
+use Rattle.words.proofs.Tests.{both, within-says}
 use Rattle.desk.specs.Desk.{desks-most, may-submit, may-turn}
 
 pub not-both : (b : Bool) → b ≡ true → b ≡ false → ⊥
 not-both b p q = let z : _≡_ {A = ℕ} 0 1 = cc in omega arith
 
-pub both : (a b : Bool) → (a && b) ≡ true → (a ≡ true) × (b ≡ true)
-both true b h = (refl, h)
-both false b h = let z : _≡_ {A = ℕ} 0 1 = cc in absurd (omega arith)
-
 -- the desks are 1 to 16
 pub may-turn-true : (n last : ℕ) → may-turn n last ≡ true → (1 ≤ n) × (n ≤ desks-most) × (last ≤ n)
 may-turn-true n last t =
-    let a = both (leb 1 n && leb n desks-most) (leb last n) t in
-    let b = both (leb 1 n) (leb n desks-most) (a .0) in
-    (leb-true 1 n (b .0), leb-true n desks-most (b .1), leb-true last n (a .1))
+    let a = both {a = within 1 n desks-most} {b = leb last n} t in
+    let b = within-says 1 n desks-most (a .0) in
+    (b .0, b .1, leb-true last n (a .1))
 
 pub turn-may : (n last : ℕ) → 1 ≤ n → n ≤ desks-most → last ≤ n → may-turn n last ≡ true
 turn-may n last a b c = rw (le-leb 1 n a, le-leb n desks-most b, le-leb last n c)
 
 pub may-submit-true : (n j : ℕ) → may-submit n j ≡ true → (1 ≤ n) × (n ≤ desks-most) × (1 ≤ j) × (j ≤ n)
 may-submit-true n j t =
-    let a = both (leb 1 n && leb n desks-most) (leb 1 j && leb j n) t in
-    let b = both (leb 1 n) (leb n desks-most) (a .0) in
-    let c = both (leb 1 j) (leb j n) (a .1) in
-    (leb-true 1 n (b .0), leb-true n desks-most (b .1), leb-true 1 j (c .0), leb-true j n (c .1))
+    let a = both {a = within 1 n desks-most} {b = within 1 j n} t in
+    let b = within-says 1 n desks-most (a .0) in
+    let c = within-says 1 j n (a .1) in
+    (b .0, b .1, c .0, c .1)
 
 pub submit-may : (n j : ℕ) → n ≤ desks-most → 1 ≤ j → j ≤ n → may-submit n j ≡ true
 submit-may n j a b c = let d : 1 ≤ n = omega arith in rw (le-leb 1 n d, le-leb n desks-most a, le-leb 1 j b, le-leb j n c)

@@ -8,9 +8,10 @@ use native.Mathlib.Decide.{decLt, ℕ-discrete}
 use lib.Dec.{ltb}
 use lib.ListN.{length, List·getD-eq-default}
 use borrow.Author.Tests.{lt-ltb, le-ltb}
+use Rattle.words.specs.Lists.{count-from}
 use Rattle.words.specs.Tests.{if_then_else_}
 use Rattle.desk.specs.declared.desk.Desk.{Desk}
-use Rattle.desk.specs.Desk.{fresh, full, held, count-from, first-full, choose}
+use Rattle.desk.specs.Desk.{fresh, full, held, first-full, choose}
 use Rattle.desk.proofs.Bounds.{not-both}
 
 -- how far member j is after `last`, going round M members: 1 to M
@@ -84,18 +85,18 @@ module _ (ds : List Desk) where
   run : (i n : ℕ) → Run i n (first-full ds (count-from i n))
   unfolding first-full
   run i zero = none-in (λ j a b. absurd (omega arith))
-  run i (suc n) = go (full (held ds i)) refl (first-full ds (count-from (suc i) n)) (run (suc i) n)
+  run i (suc n) = go (full (held ds i)) refl (first-full ds (count-from (i + 1) n)) (run (i + 1) n)
     where
       here : full (held ds i) ≡ false → (j : ℕ) → Dec (i ≡ j) → (i < j → full (held ds j) ≡ false) → i ≤ j → full (held ds j) ≡ false
       here t j (yes e) f a = rw e at t
       here t j (no e) f a = f (omega arith)
 
-      rest : (t : full (held ds i) ≡ false) (k : ℕ) → Run (suc i) n k → Run i (suc n) k
-      rest t k (none-in f) = none-in (λ j a b. here t j (ℕ-discrete i j) (λ c. f j c (omega arith)) a)
+      rest : (t : full (held ds i) ≡ false) (k : ℕ) → Run (i + 1) n k → Run i (suc n) k
+      rest t k (none-in f) = none-in (λ j a b. here t j (ℕ-discrete i j) (λ c. f j (omega arith) (omega arith)) a)
       rest t k (first-in a b c f) =
-          first-in {k = k} (omega arith) (omega arith) c (λ j d e. here t j (ℕ-discrete i j) (λ g. f j g e) d)
+          first-in {k = k} (omega arith) (omega arith) c (λ j d e. here t j (ℕ-discrete i j) (λ g. f j (omega arith) e) d)
 
-      go : (b : Bool) → full (held ds i) ≡ b → (k : ℕ) → Run (suc i) n k → Run i (suc n) (if b then i else k)
+      go : (b : Bool) → full (held ds i) ≡ b → (k : ℕ) → Run (i + 1) n k → Run i (suc n) (if b then i else k)
       go true t k x = first-in {k = i} (omega arith) (omega arith) t (λ j a b. absurd (omega arith))
       go false t k x = rest t k x
 

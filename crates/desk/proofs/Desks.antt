@@ -9,6 +9,7 @@ use lib.ListN.{length, set, getD, length-set}
 use lib.Seq.{getD-set-same, getD-set-other}
 use borrow.Author.Tests.{not-true}
 use Rattle.words.specs.Tests.{if_then_else_}
+use Rattle.words.proofs.Tests.{both}
 use Rattle.words.specs.declared.refusal.Refusal.the-variants.{NoDesk, FullDesk}
 use Rattle.change.specs.declared.Request.{Request}
 use Rattle.desk.specs.declared.desk.Desk.{Desk}
@@ -17,7 +18,7 @@ use Rattle.desk.specs.declared.answer.Submitted.{Submitted}
 use Rattle.desk.specs.declared.answer.Submitted.the-variants.{Accepted, Refused}
 use Rattle.desk.specs.Desk.{fresh, full, held, with-desk, may-submit, accepts}
 use Rattle.desk.specs.Turn.{submit-answer, submit-desks}
-use Rattle.desk.proofs.Bounds.{not-both, both, may-submit-true}
+use Rattle.desk.proofs.Bounds.{not-both, may-submit-true}
 
 pub length-with : (ds : List Desk) (j : ℕ) (d : Desk) → length (with-desk ds j d) ≡ length ds
 length-with ds zero d = refl
@@ -39,7 +40,7 @@ set-self (d ∷ ds) (suc i) = ap (λ (l : List Desk). d ∷ l) (set-self ds i)
 
 pub accepts-true : (ds : List Desk) (j : ℕ) → accepts ds j ≡ true → (1 ≤ j) × (j ≤ length ds) × (full (held ds j) ≡ false)
 accepts-true ds j t =
-    let a = both (may-submit (length ds) j) (not (full (held ds j))) t in
+    let a = both {a = may-submit (length ds) j} {b = not (full (held ds j))} t in
     let b = may-submit-true (length ds) j (a .0) in
     (b .2, b .3, not-true (full (held ds j)) (a .1))
 

@@ -1,3 +1,4 @@
+-- Laws of desks and turns, the walks over desk records, and the proof of demand 3.
 pub mod Bounds
 pub mod Round
 pub mod Looking

@@ -9,7 +9,6 @@ use Rattle.words.specs.Event.{run}
 use Rattle.words.specs.Loss.{Safe}
 use Rattle.words.specs.Cuts.{Found}
 use Rattle.words.proofs.Loss.{settled-safe}
-use Rattle.words.proofs.Found.{cut-quiet, found-quiet}
 use Rattle.node.specs.View.{no-end}
 use Rattle.tree.specs.WellFormed.{WellFormed}
 use Rattle.tree.specs.Map.{Map, map-of}
@@ -22,6 +21,7 @@ use Rattle.change.specs.Rule.{rule}
 use Rattle.change.proofs.Most.{fits}
 use Rattle.change.proofs.Bounds.{serve-numbered, serve-inside}
 use Rattle.change.proofs.Survives.{recovery-none}
+use Rattle.change.proofs.LeafCuts.{none-found}
 use Rattle.pool.specs.Demand2.{Holds, Changes, Served, no-room, done}
 use Rattle.pool.proofs.Demand2.{demand-2}
 use Rattle.desk.specs.OurPools.{our-pools, TheDemand3}
@@ -34,12 +34,9 @@ holds-map h = fun-ext (λ key. h .map-is key)
 
 -- nothing carried out, and nothing to be recovered: what is found is what stood there
 module _ {m : List ℕ} (w : WellFormed m) where
-  still : {n : ℕ} {m′ : List ℕ} → Found recovery m [] n m′ → m′ ≡ m
-  still {n} = found-quiet (λ (x : List ℕ). x ≡ m) (λ m′ c. cut-quiet n refl c) (λ m′ e. ap recovery e ∙ recovery-none w)
-
   rests : (n : ℕ) (m′ : List ℕ) → Found recovery m [] n m′ → Recovered our-pools m m m′
   rests n m′ f =
-      let e : run m′ (recovery m′) ≡ m = rw (still f, recovery-none w) refl in
+      let e : run m′ (recovery m′) ≡ m = rw (none-found w f, recovery-none w) refl in
       rw e (w, inl refl)
 
   -- a request that is not refused for room

@@ -5,7 +5,6 @@ use Prim.Native.Nat.{ℕ, suc, _+_, _*_, _≤_, _<_}
 use mathlib.Core.Path.{_≡_}
 use mathlib.Core.Logic.{_⊎_}
 use mathlib.Core.List.{List, [], _∷_, _++_}
-use mathlib.Core.Option.{Option}
 use lib.ListN.{length}
 use Rattle.words.specs.Pool.{list-words, events-most}
 use Rattle.words.specs.Event.{Event, run}
@@ -13,7 +12,7 @@ use Rattle.words.specs.Carry.{AllDone}
 use Rattle.words.specs.Loss.{Safe}
 use Rattle.words.specs.Cuts.{Found}
 use Rattle.words.specs.declared.refusal.Refusal.the-variants.{NoRoom}
-use Rattle.change.specs.Rule.{rule}
+use Rattle.change.specs.Rule.{Map, rule}
 use Rattle.change.specs.declared.Request.{Request}
 use Rattle.change.specs.declared.Outcome.the-variants.{Refused}
 use Rattle.desk.specs.declared.desk.Desk.the-variants.{Holding}
@@ -23,9 +22,6 @@ use Rattle.desk.specs.Desk.{desks-most, held}
 use Rattle.desk.specs.Turn.{submit-answer}
 use Rattle.desk.specs.Rows.{Way, House, Call, submit, turn, Seen, seen, step, after, turns, accepted}
 use Rattle.desk.specs.Rows.{events-of, times, carried, waiting}
-
-abbrev pub Map : Type 0
-Map = ℕ → Option ℕ
 
 -- what a pool means, and the events of its recovery. The desks look no further.
 pub record Pools : Type 1 where

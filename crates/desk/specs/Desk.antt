@@ -5,6 +5,7 @@ use mathlib.Core.Bool.{Bool, true, false, not, _&&_}
 use lib.ListN.{length, getD, set}
 use lib.Dec.{leb}
 use Rattle.words.specs.Tests.{if_then_else_, within}
+use Rattle.words.specs.Lists.{count-from}
 use Rattle.desk.specs.declared.desk.Desk.{Desk}
 use Rattle.desk.specs.declared.desk.Desk.the-variants.{Empty, Holding}
 
@@ -41,11 +42,6 @@ may-turn desks last = within 1 desks desks-most && leb last desks
 -- neither 9 nor 10: "submit: desk full"
 abbrev pub accepts : List Desk → ℕ → Bool
 accepts ds member = may-submit (length ds) member && not (full (held ds member))
-
--- n numbers from i on
-abbrev pub count-from : ℕ → ℕ → List ℕ
-count-from i zero = []
-count-from i (suc n) = i ∷ count-from (suc i) n
 
 -- "after the one last served, going round": the members in the order in which a turn looks
 abbrev pub round : ℕ → ℕ → List ℕ

@@ -1,3 +1,4 @@
+-- What a reader believes of desks, turns and rows of them, and demand 3.
 pub mod Desk
 pub mod Turn
 pub mod Answers

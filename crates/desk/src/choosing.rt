@@ -27,7 +27,7 @@ pub fn looked_at(desks: usize, last: u64) -> usize
 }
 
 // The member looked at after k others.
-fn member_after(desks: usize, last: u64, k: usize) -> usize
+pub fn member_after(desks: usize, last: u64, k: usize) -> usize
     requires { ⌜ (desks ≤ desks-most) × (last ≤ desks) × (k < desks) ⌝ }
     ensures { λ r. ⌜ r ≡ at (round desks last) k ⌝ }
 {
@@ -39,7 +39,7 @@ fn member_after(desks: usize, last: u64, k: usize) -> usize
 }
 
 // One desk more is looked at.
-fn note(found: Chosen, member: usize, desk: Desk) -> Chosen
+pub fn note(found: Chosen, member: usize, desk: Desk) -> Chosen
     ensures { λ r. ⌜ r ≡ noted found member desk ⌝ }
 {
     let held = found.desk;

@@ -11,7 +11,7 @@ ghost use Rattle.words.specs.Carry.{after-all};
 ghost use Rattle.desk.specs.Turn.{serve-turn, unserved};
 
 // All events of the list up to a number, one after the other.
-fn carry_all(pool: &mut [u64], list: &[u64], events: u64)
+pub fn carry_all(pool: &mut [u64], list: &[u64], events: u64)
     ensures { λ _. ⌜ now (pool .exit) ≡ after-all (now (pool .entry)) (now (list .entry)) 1 events ⌝ }
 {
     let mut n = 0;

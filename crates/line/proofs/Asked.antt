@@ -13,7 +13,7 @@ use Rattle.line.specs.declared.fields.Command.{Command}
 use Rattle.line.specs.declared.fields.Command.the-variants as c
 use Rattle.line.specs.declared.parsing.Line.{Line}
 use Rattle.line.specs.declared.parsing.Line.the-variants.{Bad}
-use Rattle.line.specs.Line.{blank, stop, parts, number-of, command-of, with-key, with-value, after-command, meaning}
+use Rattle.line.specs.Line.{blank, line-most, stop, parts, number-of, command-of, with-key, with-value, after-command, meaning}
 use Rattle.line.proofs.Parts.{stop-le, parts-whole, parts-at, parted}
 
 pub key-none : (w : Command) {k : Number} → k ≡ Not → Bad ≡ with-key w k
@@ -59,18 +59,18 @@ module _ (w : Command) (bytes : List ℕ) {a : ℕ} (first : a ≡ stop blank by
         rw (parts-at blank bytes first more, ← is, parts-at blank last second n, parted blank (drop (b + 1) last) .is)
 
 -- "at most 64 bytes a line"
-pub too-long : (bytes : List ℕ) → 64 < length bytes → meaning bytes ≡ Bad
+pub too-long : (bytes : List ℕ) → line-most < length bytes → meaning bytes ≡ Bad
 unfolding meaning
-too-long bytes h = rw (lt-leb (length bytes) 64 h)
+too-long bytes h = rw (lt-leb (length bytes) line-most h)
 
 -- a line whose first field ends at a
-module _ (bytes : List ℕ) (fits : length bytes ≤ 64) {a : ℕ} (first : a ≡ stop blank bytes) where
+module _ (bytes : List ℕ) (fits : length bytes ≤ line-most) {a : ℕ} (first : a ≡ stop blank bytes) where
   pub one-word : a ≡ length bytes → Bad ≡ meaning bytes
   unfolding meaning
-  one-word e = rw (le-leb (length bytes) 64 fits, parts-whole blank bytes first e)
+  one-word e = rw (le-leb (length bytes) line-most fits, parts-whole blank bytes first e)
 
   pub more-words : ¬ (a ≡ length bytes) → (last : List ℕ) → last ≡ drop (a + 1) bytes → {w : Command} {r : Line}
       → w ≡ command-of (take a bytes) → r ≡ after-command w (parts blank last) → r ≡ meaning bytes
   unfolding meaning
   more-words n last is {w} {r} word asked =
-      rw (le-leb (length bytes) 64 fits, parts-at blank bytes first n, ← is, ← word) asked
+      rw (le-leb (length bytes) line-most fits, parts-at blank bytes first n, ← is, ← word) asked

@@ -1,11 +1,11 @@
 -- Document 01's example of the program, and lines that are bad, each computed.
 use mathlib.Core.Path.{_≡_, refl}
-use mathlib.Core.List.{List, [], _∷_}
-use Prim.Native.Nat.{ℕ}
+use mathlib.Core.List.{[], _∷_}
+use Rattle.words.specs.Lists.{same}
 use Rattle.change.specs.declared.Request.the-variants.{Put, Fetch, Delete}
 use Rattle.change.specs.declared.Outcome.the-variants.{New, Absent, Found}
 use Rattle.line.specs.declared.parsing.Line.the-variants.{Ask, Bad}
-use Rattle.line.specs.Line.{meaning, parts, same, number-of, read, digits, digits-in, text}
+use Rattle.line.specs.Line.{meaning, parts, number-of, read, digits, digits-in, text}
 
 -- "put 7 70"
 pub put-line : meaning (112 ∷ 117 ∷ 116 ∷ 32 ∷ 55 ∷ 32 ∷ 55 ∷ 48 ∷ []) ≡ Ask (Put 7 70)

@@ -10,7 +10,8 @@ use lib.Dec.{eqb}
 use lib.ListN.{length, getD, take, drop, drop-of-length-le}
 use lib.Seq.{drop-cons}
 use Rattle.words.specs.Tests.{if_then_else_}
-use Rattle.line.specs.Line.{parts, stop, onto, same}
+use Rattle.words.specs.Lists.{same}
+use Rattle.line.specs.Line.{parts, stop, onto}
 
 module _ (b : ℕ) where
   pub stop-le : (xs : List ℕ) → stop b xs ≤ length xs

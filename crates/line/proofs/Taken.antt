@@ -12,7 +12,7 @@ use lib.Seq.{sets, sets-eq, take-all, take-append-le, take-append-seam}
 use Rattle.words.specs.Tests.{if_then_else_}
 use Rattle.line.specs.declared.parsing.Line.{Line}
 use Rattle.line.specs.declared.taking.Taker.{Taker}
-use Rattle.line.specs.Line.{meaning, newline, parts, onto, without-empty-last, lines-in}
+use Rattle.line.specs.Line.{line-most, meaning, newline, parts, onto, without-empty-last, lines-in}
 use Rattle.line.specs.Taken.{fresh, whole, with-byte, stepped, rest, taken, lines-come, and-then}
 use Rattle.line.proofs.Written.{sets-append}
 use Rattle.line.proofs.Parts.{Parted, parted}
@@ -25,40 +25,40 @@ take-sets bytes out h = rw (sets-eq bytes out 0 (omega arith), take-append-seam)
 -- what was taken means what all the bytes mean
 pub whole-taken : (bytes : List ℕ) → whole (taken bytes) ≡ meaning bytes
 unfolding taken
-whole-taken bytes = go (ltb 64 (length bytes)) refl
+whole-taken bytes = go (ltb line-most (length bytes)) refl
   where
-    go : (t : Bool) → ltb 64 (length bytes) ≡ t → whole (taken bytes) ≡ meaning bytes
-    go true e = rw (e, too-long bytes (ltb-true 64 (length bytes) e))
+    go : (t : Bool) → ltb line-most (length bytes) ≡ t → whole (taken bytes) ≡ meaning bytes
+    go true e = rw (e, too-long bytes (ltb-true line-most (length bytes) e))
     go false e =
-        let h = ltb-false 64 (length bytes) e in
-        rw (e, min-eq-right h, e, take-all 64 bytes h, take-sets bytes (fresh .line) h)
+        let h = ltb-false line-most (length bytes) e in
+        rw (e, min-eq-right h, e, take-all line-most bytes h, take-sets bytes (fresh .line) h)
 
 -- one byte more
 pub with-byte-taken : (bytes : List ℕ) (b : ℕ) → with-byte (taken bytes) b ≡ taken (bytes ++ (b ∷ []))
 unfolding taken
-with-byte-taken bytes b = go (leb 64 (length bytes)) refl
+with-byte-taken bytes b = go (leb line-most (length bytes)) refl
   where
-    go : (t : Bool) → leb 64 (length bytes) ≡ t → with-byte (taken bytes) b ≡ taken (bytes ++ (b ∷ []))
+    go : (t : Bool) → leb line-most (length bytes) ≡ t → with-byte (taken bytes) b ≡ taken (bytes ++ (b ∷ []))
     go true e =
         let one : length (bytes ++ (b ∷ [])) ≡ length bytes + 1 = length-append bytes (b ∷ []) in
-        let h = leb-true 64 (length bytes) e in
-        let m : min 64 (length (bytes ++ (b ∷ []))) ≡ 64 = min-eq-left (omega arith) in
-        let l : ltb 64 (length (bytes ++ (b ∷ []))) ≡ true = lt-ltb 64 (length (bytes ++ (b ∷ []))) (omega arith) in
-        rw (min-eq-left h, m, l, take-append-le 64 bytes (b ∷ []) h)
+        let h = leb-true line-most (length bytes) e in
+        let m : min line-most (length (bytes ++ (b ∷ []))) ≡ line-most = min-eq-left (omega arith) in
+        let l : ltb line-most (length (bytes ++ (b ∷ []))) ≡ true = lt-ltb line-most (length (bytes ++ (b ∷ []))) (omega arith) in
+        rw (min-eq-left h, m, l, take-append-le line-most bytes (b ∷ []) h)
     go false e =
         let one : length (bytes ++ (b ∷ [])) ≡ length bytes + 1 = length-append bytes (b ∷ []) in
-        let h = leb-false 64 (length bytes) e in
-        let h′ : length bytes ≤ 64 = omega arith in
-        let m : min 64 (length (bytes ++ (b ∷ []))) ≡ length bytes + 1 = min-eq-right (omega arith) ∙ one in
-        let l : ltb 64 (length (bytes ++ (b ∷ []))) ≡ false = le-ltb 64 (length (bytes ++ (b ∷ []))) (omega arith) in
+        let h = leb-false line-most (length bytes) e in
+        let h′ : length bytes ≤ line-most = omega arith in
+        let m : min line-most (length (bytes ++ (b ∷ []))) ≡ length bytes + 1 = min-eq-right (omega arith) ∙ one in
+        let l : ltb line-most (length (bytes ++ (b ∷ []))) ≡ false = le-ltb line-most (length (bytes ++ (b ∷ []))) (omega arith) in
         rw (
           min-eq-right h′,
           e,
           m,
           l,
-          take-all 64 (bytes ++ (b ∷ [])) (omega arith),
-          take-all 64 bytes h′,
-          le-ltb 64 (length bytes) h′,
+          take-all line-most (bytes ++ (b ∷ [])) (omega arith),
+          take-all line-most bytes h′,
+          le-ltb line-most (length bytes) h′,
           sets-append bytes (b ∷ []) (fresh .line) 0,
           zero-add,
         )
@@ -66,8 +66,8 @@ with-byte-taken bytes b = go (leb 64 (length bytes)) refl
 len-some : (b : ℕ) (bytes : List ℕ) → eqb (taken (b ∷ bytes) .len) 0 ≡ false
 unfolding taken
 len-some b bytes =
-    let some : 1 ≤ min 64 (suc (length bytes)) = le-min (lit≤ tt) (omega arith) in
-    ne-eqb (min 64 (suc (length bytes))) 0 (λ e. omega arith)
+    let some : 1 ≤ min line-most (suc (length bytes)) = le-min (lit≤ tt) (omega arith) in
+    ne-eqb (min line-most (suc (length bytes))) 0 (λ e. omega arith)
 
 -- nothing was taken yet
 pub fresh-taken : fresh ≡ taken []

@@ -11,7 +11,7 @@ use Rattle.change.specs.declared.Outcome.{Outcome}
 use Rattle.change.specs.declared.Outcome.the-variants as o
 use Rattle.line.specs.declared.parsing.Line.{Line}
 use Rattle.line.specs.declared.parsing.Line.the-variants.{Ask, Bad}
-use Rattle.line.specs.Line.{command-text, outcome-text, text}
+use Rattle.line.specs.Line.{text-most, command-text, outcome-text, text}
 use Rattle.line.proofs.Decimal.{length-digits}
 
 pub length-command : (r : Request) → length (command-text r) ≡ 3
@@ -27,8 +27,8 @@ length-outcome o.Absent = lit≤ tt
 length-outcome (o.Found v) = omega (arith, length-digits v)
 length-outcome (o.Refused why) = omega (arith, length-digits (number why))
 
--- every text fits in 64 bytes
-pub length-text : (line : Line) (out : Outcome) (events : ℕ) → length (text line out events) ≤ 64
+-- every text fits in its room
+pub length-text : (line : Line) (out : Outcome) (events : ℕ) → length (text line out events) ≤ text-most
 length-text (Ask r) out events =
     simp length-append (omega (arith, length-command r, length-outcome out, length-digits events))
 length-text Bad out events = lit≤ tt

@@ -1,10 +1,11 @@
 -- Document 01, "A program reads lines ..": what a line means, what is printed for it, and the lines of an input.
 use Prim.Native.Nat.{ℕ, zero, suc, _+_, _-_, _*_, _/_, _%_, _^_}
 use mathlib.Core.List.{List, [], _∷_, _++_}
-use mathlib.Core.Bool.{Bool, true, false, _&&_}
+use mathlib.Core.Bool.{Bool}
 use lib.Dec.{ltb, leb, eqb}
 use lib.ListN.{length}
 use Rattle.words.specs.Tests.{if_then_else_, within}
+use Rattle.words.specs.Lists.{same}
 use Rattle.words.specs.Refusals.{number}
 use Rattle.change.specs.declared.Request.{Request}
 use Rattle.change.specs.declared.Request.the-variants.{Put, Fetch, Delete}
@@ -24,6 +25,14 @@ blank = 32
 -- "64 bytes do not count the newline"
 abbrev pub newline : ℕ
 newline = 10
+
+-- "at most 64 bytes a line"
+abbrev pub line-most : ℕ
+line-most = 64
+
+-- the bytes of a line of output, at most
+abbrev pub text-most : ℕ
+text-most = 64
 
 -- x put before the first part
 abbrev pub onto : ℕ → List (List ℕ) → List (List ℕ)
@@ -53,13 +62,6 @@ read n (d ∷ ds) = if is-digit d then read (n * 10 + (d - 48)) ds else Not
 unfoldable pub number-of : List ℕ → Number
 number-of [] = Not
 number-of (d ∷ ds) = read 0 (d ∷ ds)
-
--- two words are spelled the same
-unfoldable pub same : List ℕ → List ℕ → Bool
-same [] [] = true
-same [] (y ∷ ys) = false
-same (x ∷ xs) [] = false
-same (x ∷ xs) (y ∷ ys) = eqb x y && same xs ys
 
 -- "lines `put K V`, `get K`, `del K`": the commands' words
 abbrev pub put-word : List ℕ
@@ -107,7 +109,7 @@ fields-mean (w ∷ fields) = after-command (command-of w) fields
 
 -- "(decimal, at most 64 bytes a line)"; "64 bytes do not count the newline"; "Any other line .. `? badline 0`"
 unfoldable pub meaning : List ℕ → Line
-meaning bytes = if leb (length bytes) 64 then fields-mean (parts blank bytes) else Bad
+meaning bytes = if leb (length bytes) line-most then fields-mean (parts blank bytes) else Bad
 
 -- the last part does not count where it is empty
 abbrev pub without-empty-last : List (List ℕ) → List (List ℕ)

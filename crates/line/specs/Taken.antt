@@ -12,14 +12,14 @@ use Rattle.line.specs.declared.taking.Taker.{Taker}
 use Rattle.line.specs.declared.taking.Taken.{Taken}
 use Rattle.line.specs.declared.taking.Came.{Came}
 use Rattle.line.specs.declared.taking.Came.the-variants.{Whole, Nothing}
-use Rattle.line.specs.Line.{meaning, newline}
+use Rattle.line.specs.Line.{line-most, meaning, newline}
 
 abbrev pub fresh : Taker
-fresh = record { line = replicate 64 0; len = 0; long = false }
+fresh = record { line = replicate line-most 0; len = 0; long = false }
 
 -- the first bytes of a line's room
 abbrev pub first : List ℕ → ℕ → Line
-first line len = if ltb 64 len then Bad else meaning (take len line)
+first line len = if ltb line-most len then Bad else meaning (take len line)
 
 -- "at most 64 bytes a line": a longer one is bad
 abbrev pub whole : Taker → Line
@@ -28,7 +28,7 @@ whole t = if t .long then Bad else first (t .line) (t .len)
 -- a byte that is not a newline is kept while there is room
 abbrev pub with-byte : Taker → ℕ → Taker
 with-byte t b =
-    if leb 64 (t .len) then record { line = t .line; len = t .len; long = true }
+    if leb line-most (t .len) then record { line = t .line; len = t .len; long = true }
     else record { line = set (t .line) (t .len) b; len = t .len + 1; long = t .long }
 
 -- a newline ends a line; any other byte is added
@@ -43,9 +43,13 @@ step t b = stepped (eqb b newline) t b
 abbrev pub rest : Taker → Came
 rest t = if eqb (t .len) 0 then Nothing else Whole (whole t)
 
--- the bytes since the last newline, as they are taken: the first 64, and whether there are more
+-- the bytes since the last newline, as they are taken: as many as a line may have, and whether there are more
 unfoldable pub taken : List ℕ → Taker
-taken bytes = record { line = sets (fresh .line) 0 (take 64 bytes); len = min 64 (length bytes); long = ltb 64 (length bytes) }
+taken bytes = record {
+  line = sets (fresh .line) 0 (take line-most bytes);
+  len = min line-most (length bytes);
+  long = ltb line-most (length bytes);
+}
 
 abbrev pub and-then : Came → List Line → List Line
 and-then Nothing lines = lines

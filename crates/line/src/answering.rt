@@ -42,7 +42,7 @@ fn write_outcome(out: &mut [u8], at: usize, outcome: Outcome) -> usize
 
 // The text of a line that asks.
 fn write_fields(out: &mut [u8], at: usize, request: Request, outcome: Outcome, events: u64) -> usize
-    requires { ⌜ at + 64 ≤ length (now out) ⌝ }
+    requires { ⌜ at + t.text-most ≤ length (now out) ⌝ }
     ensures { λ r. ⌜ Wrote (t.fields-text request outcome events) at (now (out .entry)) r (now (out .exit)) ⌝ }
 {
     let a = write_command(out, at, request);
@@ -54,7 +54,7 @@ fn write_fields(out: &mut [u8], at: usize, request: Request, outcome: Outcome, e
 }
 
 pub fn write_text(out: &mut [u8], at: usize, line: Line, outcome: Outcome, events: u64) -> usize
-    requires { ⌜ at + 64 ≤ length (now out) ⌝ }
+    requires { ⌜ at + t.text-most ≤ length (now out) ⌝ }
     ensures { λ r. ⌜ Wrote (t.text line outcome events) at (now (out .entry)) r (now (out .exit)) ⌝ }
 {
     match line {

@@ -1,9 +1,8 @@
 // The fields of a line, parted by single blanks, and the command that the first one names.
 ghost use mathlib.Core.Path.{_≡_};
-ghost use Rattle.line.specs.Line.{blank, stop};
 ghost use mathlib.Core.List.{[], _∷_};
-ghost use Rattle.line.specs.Line.{same};
-ghost use Rattle.line.specs.Line.{command-of};
+ghost use Rattle.words.specs.Lists.{same};
+ghost use Rattle.line.specs.Line.{blank, stop, command-of};
 
 pub enum Command {
     Put,

@@ -17,7 +17,16 @@ pub enum Line {
 impl Line {
     // The bytes of a line, at most.
     pub const MOST: usize = 64;
+
+    // The bytes of a line of output, at most.
+    pub const TEXT_MOST: usize = 64;
 }
+
+// The constants are the numbers of the definitions.
+fn named_once()
+    ensures { λ _. do ⌜ (← ⟦Line::MOST⟧ .entry) ≡ l.line-most ⌝ }
+    ensures { λ _. do ⌜ (← ⟦Line::TEXT_MOST⟧ .entry) ≡ l.text-most ⌝ }
+{}
 
 // A command with one number.
 fn with_key(c: Command, key: Number) -> Line

@@ -6,7 +6,7 @@ ghost use Rattle.line.specs.Taken as t;
 
 // The bytes since the last newline, as far as a line may have them, and whether there were more.
 pub struct Taker {
-    pub line: [u8; 64],
+    pub line: [u8; Line::MOST],
     pub len: usize,
     pub long: bool,
 }
@@ -24,14 +24,14 @@ pub struct Taken {
 
 impl Taker {
     pub const FRESH: Taker = Taker {
-        line: [0; 64],
+        line: [0; Line::MOST],
         len: 0,
         long: false,
     };
 }
 
 // What the first bytes of a full line mean.
-fn parse_first(line: [u8; 64], len: usize) -> Line
+fn parse_first(line: [u8; Line::MOST], len: usize) -> Line
     ensures { λ r. ⌜ r ≡ t.first line len ⌝ }
 {
     if Line::MOST < len {

@@ -14,18 +14,9 @@ const POOL_WORDS: usize = 1672;
 
 const LIST_WORDS: usize = 372;
 
-// Carries out the first events of the list.
-fn carry_all(pool: &mut [u64], list: &[u64], events: u64) {
-    let mut n = 0;
-    while n < events {
-        n += 1;
-        words::carry_out(pool, list, n);
-    }
-}
-
 fn make_pool(pool: &mut [u64], list: &mut [u64]) {
     if let Formatted::Planned(events) = pool::format(pool, list, CAPACITY) {
-        carry_all(pool, list, events);
+        desk::carry_all(pool, list, events);
     }
 }
 

@@ -1,10 +1,9 @@
 // Output, gathered in a buffer and written in blocks.
 use libc::STDOUT_FILENO;
+use line::Line;
 ghost use Prim.Native.Nat.{_+_, _≤_};
 ghost use lib.ListN.{length};
-
-// The longest text of an answer fits in so many bytes.
-const ANSWER_MOST: usize = 64;
+ghost use Rattle.line.specs.Line.{text-most};
 
 pub fn write_heading(out: &mut [u8; 4096]) -> usize
     ensures { λ r. ⌜ r ≤ 4096 ⌝ }
@@ -27,9 +26,9 @@ pub fn flush(out: &[u8; 4096], used: usize)
 // Where the next answer goes: after the others, or at the start once they are written.
 pub fn room(out: &[u8; 4096], used: usize) -> usize
     requires { ⌜ used ≤ 4096 ⌝ }
-    ensures { λ r. ⌜ r + 64 ≤ 4096 ⌝ }
+    ensures { λ r. ⌜ r + text-most ≤ 4096 ⌝ }
 {
-    if used + ANSWER_MOST <= 4096 {
+    if used + Line::TEXT_MOST <= 4096 {
         return used;
     }
     flush(out, used);

@@ -1,6 +1,5 @@
 -- Laws of bytes, slot words, names, keys and views.
 pub mod Tests
-pub mod Turns
 pub mod Joins
 pub mod Digits
 pub mod Places
@@ -13,5 +12,4 @@ pub mod Spots
 pub mod Views
 pub mod Passes
 pub mod Walks
-pub mod Answers
 pub mod Vectors

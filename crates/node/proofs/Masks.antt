@@ -10,10 +10,10 @@ use lib.Bits.{bitOr, or-shr, or-step, shifted-even}
 use lib.Dec.{eqb, lit<, eqb·suc-suc, eqb·suc-zero, eqb·zero-suc}
 use lib.Pow.{pow-lt}
 use Rattle.words.specs.Tests.{if_then_else_}
+use Rattle.words.proofs.Turns.{turn, over}
 use Rattle.node.specs.Lists.{has}
 use Rattle.node.specs.Slot.{byte, bytes}
 use Rattle.node.specs.Marks.{marked}
-use Rattle.node.proofs.Turns.{turn, over}
 use Rattle.node.proofs.Joins.{one-shifted}
 
 pub marked-none : (x : ℕ) → marked 0 x ≡ false

@@ -1,15 +1,14 @@
 -- The tests of one pass over the names of a node, each on its own, against those of the definition.
 use mathlib.Core.Path.{_≡_, _∙_, sym, refl}
 use mathlib.Core.List.{List, [], _∷_}
-use mathlib.Core.Bool.{Bool, true, false, not, _&&_, _||_, and-true, and-false}
+use mathlib.Core.Bool.{Bool, true, false, _&&_, and-true, and-false}
 use Prim.Native.Nat.{ℕ, _+_, _≤_, _<_}
 use native.Mathlib.Omega.{arith}
 use borrow.Author.Tests.{lt-ltb, le-leb, ltb-true, leb-true, ne-eqb}
 use lib.Dec.{ltb, leb, eqb}
 use Rattle.words.specs.Tests.{if_then_else_}
-use Rattle.node.specs.Lists.{has, rising, covered}
-use Rattle.words.proofs.Tests.{both, eqb-sym}
-use Rattle.node.proofs.Tests.{neither}
+use Rattle.node.specs.Lists.{rising, covered}
+use Rattle.words.proofs.Tests.{both}
 
 -- a key may come after j others, the last of them `low`
 abbrev pub follows : ℕ → ℕ → ℕ → Bool
@@ -22,11 +21,7 @@ later j = ne-eqb (j + 1) 0 (λ e. omega arith)
 abbrev pub ends : ℕ → ℕ → ℕ → Bool
 ends hi j last = if eqb j 0 then true else ltb last hi
 
--- its tests, each on its own: no name was seen before, the keys rise, the last is below the end
-unfoldable pub apart : (ℕ → Bool) → List ℕ → Bool
-apart seen [] = true
-apart seen (e ∷ es) = not (seen e) && apart seen es
-
+-- its tests, each on its own: the keys rise, the last is below the end
 unfoldable pub rises : ℕ → ℕ → List ℕ → Bool
 rises j low [] = true
 rises j low (x ∷ xs) = follows j low x && rises (j + 1) x xs
@@ -35,27 +30,12 @@ unfoldable pub final : ℕ → ℕ → ℕ → List ℕ → Bool
 final hi j low [] = ends hi j low
 final hi j low (x ∷ xs) = final hi (j + 1) x xs
 
-pub apart-more : (seen : ℕ → Bool) (e : ℕ) (es : List ℕ) → apart (λ x. eqb x e || seen x) es ≡ (not (has e es) && apart seen es)
-unfolding apart has
-apart-more seen e [] = refl
-apart-more seen e (y ∷ es) = rw (apart-more seen e es, eqb-sym e y) (neither (eqb y e) (seen y) (has e es) (apart seen es))
-
 -- a test that fails early fails the whole
-pub turned : (a b f n x c d r z : Bool)
-    → (if a && b then (if f then (x && (c && n) && d && r && z) else false) else false)
-    ≡ ((a && x) && (b && n) && (c && d) && (f && r) && z)
-turned false b f n x c d r z = refl
-turned true false f n true c d r z = refl
-turned true false f n false c d r z = refl
-turned true true false n false c d r z = refl
-turned true true false false true c d r z = refl
-turned true true false true true false d r z = refl
-turned true true false true true true false r z = refl
-turned true true false true true true true r z = refl
-turned true true true n false c d r z = refl
-turned true true true false true false d r z = refl
-turned true true true true true false d r z = refl
-turned true true true n true true d r z = refl
+pub turned : (a f x r z : Bool) → (if a then (if f then (x && r && z) else false) else false) ≡ ((a && x) && (f && r) && z)
+turned false f x r z = refl
+turned true true x r z = refl
+turned true false true r z = refl
+turned true false false r z = refl
 
 rises-on : (j x : ℕ) (xs : List ℕ) → rises (j + 1) x xs ≡ rising (x ∷ xs)
 unfolding rises rising
@@ -88,13 +68,9 @@ rises-covered hi lo (x ∷ xs) = rw (rises-on 0 x xs) (go (leb lo x) refl (risin
     go false p true q = refl
     go false p false q = refl
 
-pub apart-none : (ns : List ℕ) → apart (λ x. false) ns ≡ true
-unfolding apart
-apart-none [] = refl
-apart-none (e ∷ es) = apart-none es
-
--- the tests of a pass, joined as the definition joins them
-pub assembled : (a d r z s v w : Bool) → (r && z) ≡ (s && v) → w ≡ true → (a && true && d && r && z) ≡ (w && a && d && s && v)
-assembled true true r z s v w p q = rw q p
-assembled true false r z s v w p q = rw q
-assembled false d r z s v w p q = rw q
+-- the tests of a pass, joined as the definition joins them: names whose keys rise are all different
+pub assembled : (a d r z s v w : Bool) → (r && z) ≡ (s && v) → (s ≡ true → d ≡ true) → w ≡ true → (a && r && z) ≡ (w && a && d && s && v)
+assembled true d r z true v w p q h = rw (h, q refl) p
+assembled true true r z false v w p q h = rw h p
+assembled true false r z false v w p q h = rw h p
+assembled false d r z s v w p q h = rw h

@@ -1,19 +1,20 @@
 -- Rising lists, and the rank of a number in one.
 use mathlib.Core.Path.{_≡_, _∙_, ap, sym, refl}
-use mathlib.Core.List.{List, [], _∷_}
-use mathlib.Core.Bool.{Bool, true, false, _&&_, _||_, false≢true}
+use mathlib.Core.List.{List, [], _∷_, map}
+use mathlib.Core.Bool.{Bool, true, false, not, _&&_, _||_, and-false, false≢true}
 use mathlib.Core.Logic.{⊎-elim}
-use Prim.Native.Nat.{ℕ, zero, suc, _≤_, _<_}
+use Prim.Native.Nat.{ℕ, zero, suc, _+_, _≤_, _<_}
 use native.Mathlib.Nat.{lt-trans, eq-or-lt-of-le}
 use native.Mathlib.Omega.{arith}
-use borrow.Author.Tests.{ltb-true, ltb-false, lt-ltb, le-ltb, eq-eqb, eqb-true, eqb-false}
+use borrow.Author.Tests.{ltb-true, ltb-false, lt-ltb, le-ltb, eq-eqb, ne-eqb, eqb-true, eqb-false}
 use lib.Dec.{ltb, eqb}
 use lib.ListN.{length, getD, take, drop}
+use mir.Val.{boolByte}
 use Rattle.words.specs.Tests.{if_then_else_}
-use Rattle.node.specs.Lists.{insert, remove, has, rising, below}
+use Rattle.node.specs.Lists.{insert, remove, has, different, rising, below, upto}
 use Rattle.words.proofs.Tests.{both}
 use Rattle.node.proofs.Every.{every, every-cons, every-weaker, every-insert, every-remove, every-take, every-at, every-has}
-use Rattle.node.proofs.Sets.{has-at}
+use Rattle.node.proofs.Sets.{has-at, has-map}
 
 -- the first of a rising list is less than each of the others
 every-more : (x y : ℕ) (ys : List ℕ) → x < y → every (λ z. ltb y z) ys ≡ true → every (λ z. ltb x z) ys ≡ true
@@ -161,3 +162,77 @@ has-at-rank x xs t = go (has x xs) refl (ltb (below x xs) (length xs)) refl (eqb
         ∙ has-at (below x xs) xs (ltb-true (below x xs) (length xs) u)
     go false h true u false v = refl
     go false h false u c v = refl
+
+-- things whose numbers rise are all different
+pub rising-different : (f : ℕ → ℕ) (ns : List ℕ) → rising (map f ns) ≡ true → different ns ≡ true
+unfolding different
+rising-different f [] t = refl
+rising-different f (e ∷ es) t =
+    let p = rising-cons (f e) (map f es) t in
+    rw (rising-different f es (p .1)) (go (has e es) refl (p .0))
+  where
+    go : (a : Bool) → has e es ≡ a → every (λ y. ltb (f e) y) (map f es) ≡ true → (not a && true) ≡ true
+    go false h u = refl
+    go true h u =
+        let q : f e < f e = ltb-true (f e) (f e) (every-has (λ y. ltb (f e) y) (f e) (map f es) u (has-map f e es h)) in
+        absurd (omega arith)
+
+pub upto-length : (x : ℕ) (xs : List ℕ) → upto x xs ≤ length xs
+unfolding upto
+upto-length x [] = omega arith
+upto-length x (y ∷ ys) = go (ltb x y) (upto-length x ys)
+  where
+    go : (b : Bool) → upto x ys ≤ length ys → (if b then 0 else suc (upto x ys)) ≤ suc (length ys)
+    go true h = omega arith
+    go false h = omega arith
+
+-- where the first is above x, none is below it, and it is not there
+none-below : (x : ℕ) (xs : List ℕ) → rising (x ∷ xs) ≡ true → (below x xs ≡ 0) × (has x xs ≡ false)
+unfolding rising below
+none-below x [] t = (refl, has-at-rank x [] refl)
+none-below x (y ∷ ys) t =
+    let p : (ltb x y ≡ true) × (rising (y ∷ ys) ≡ true) = both t in
+    let h : x < y = ltb-true x y (p .0) in
+    let first : below x (y ∷ ys) ≡ 0 = rw (le-ltb y x (omega arith)) in
+    (first, has-at-rank x (y ∷ ys) (p .1) ∙ rw (first, ne-eqb y x (λ e. omega arith), and-false))
+
+-- those not above x are those below it, and x itself if it is there
+pub upto-is : (x : ℕ) (xs : List ℕ) → rising xs ≡ true → upto x xs ≡ below x xs + boolByte (has x xs)
+unfolding upto below has rising
+upto-is x [] t = refl
+upto-is x (y ∷ ys) t = go (ltb x y) refl (eqb x y) refl (upto-is x ys (rising-cons y ys t .1))
+  where
+    go : (b : Bool) → ltb x y ≡ b → (c : Bool) → eqb x y ≡ c → upto x ys ≡ below x ys + boolByte (has x ys)
+        → (if b then 0 else suc (upto x ys)) ≡ (if ltb y x then suc (below x ys) else 0) + boolByte (c || has x ys)
+    go true u c v i =
+        let z = none-below x (y ∷ ys) (rw u t) in
+        let h : (eqb x y || has x ys) ≡ false = z .1 in
+        rw (le-ltb y x (omega (arith, ltb-true x y u)), ← v, h)
+    go false u true v i =
+        let same : x ≡ y = eqb-true x y v in
+        let z = none-below y ys t in
+        rw (le-ltb y x (omega arith)) (ap suc (i ∙ rw (same, z .0, z .1)))
+    go false u false v i =
+        rw (lt-ltb y x (omega (arith, ltb-false x y u, eqb-false x y v))) (omega (arith, i))
+
+-- so x stands at the last of them, or after it
+pub placed-none : (x : ℕ) (xs : List ℕ) → rising xs ≡ true → upto x xs ≡ 0 → (below x xs ≡ 0) × (has x xs ≡ false)
+placed-none x xs t e = go (has x xs) refl
+  where
+    go : (b : Bool) → has x xs ≡ b → (below x xs ≡ 0) × (b ≡ false)
+    go true h = let s : upto x xs ≡ below x xs + 1 = upto-is x xs t ∙ rw h in absurd (omega arith)
+    go false h = let s : upto x xs ≡ below x xs + 0 = upto-is x xs t ∙ rw h in (omega arith, refl)
+
+pub placed-last : (x : ℕ) (xs : List ℕ) → rising xs ≡ true → (a : ℕ) → upto x xs ≡ suc a
+    → (has x xs ≡ eqb (getD xs a 0) x) × (below x xs + boolByte (has x xs) ≡ suc a)
+placed-last x xs t a e = (go (has x xs) refl, sym (upto-is x xs t) ∙ e)
+  where
+    go : (b : Bool) → has x xs ≡ b → b ≡ eqb (getD xs a 0) x
+    go true h =
+        let s : upto x xs ≡ below x xs + 1 = upto-is x xs t ∙ rw h in
+        let same : below x xs ≡ a = omega arith in
+        sym (eq-eqb (getD xs a 0) x (rw same at (found-at x xs t h .1)))
+    go false h =
+        let s : upto x xs ≡ below x xs + 0 = upto-is x xs t ∙ rw h in
+        let less = before-rank x a xs (omega arith) in
+        sym (ne-eqb (getD xs a 0) x (λ q. omega arith))

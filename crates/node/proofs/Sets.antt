@@ -1,7 +1,7 @@
 -- Lists whose numbers are all different, and what they have, under numbers put in, taken out and cut off.
 use mathlib.Core.Path.{_≡_, _∙_, ap, sym, refl}
-use mathlib.Core.List.{List, [], _∷_}
-use mathlib.Core.Bool.{Bool, true, false, not, _&&_, _||_, or-true}
+use mathlib.Core.List.{List, [], _∷_, map}
+use mathlib.Core.Bool.{Bool, true, false, not, _&&_, _||_, or-true, false≢true}
 use Prim.Native.Nat.{ℕ, zero, suc, _<_}
 use native.Mathlib.Omega.{arith}
 use borrow.Author.Tests.{eqb-true, eq-eqb, not-true, not-false}
@@ -17,6 +17,16 @@ unfolding has
 has-at i [] h = absurd (omega arith)
 has-at zero (y ∷ ys) h = rw (eq-eqb y y refl)
 has-at (suc i) (y ∷ ys) h = rw (has-at i ys (omega arith)) (or-true (eqb (getD ys i 0) y))
+
+pub has-map : (f : ℕ → ℕ) (x : ℕ) (xs : List ℕ) → has x xs ≡ true → has (f x) (map f xs) ≡ true
+unfolding has
+has-map f x [] h = absurd (false≢true h)
+has-map f x (y ∷ ys) h = go (eqb x y) refl h (has-map f x ys)
+  where
+    go : (a : Bool) → eqb x y ≡ a → (a || has x ys) ≡ true → (has x ys ≡ true → has (f x) (map f ys) ≡ true)
+        → (eqb (f x) (f y) || has (f x) (map f ys)) ≡ true
+    go true e h g = rw (eq-eqb (f x) (f y) (ap f (eqb-true x y e)))
+    go false e h g = rw (g h) (or-true (eqb (f x) (f y)))
 
 pub has-insert : (x i y : ℕ) (xs : List ℕ) → has x (insert i y xs) ≡ (eqb x y || has x xs)
 unfolding has

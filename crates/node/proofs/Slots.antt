@@ -13,7 +13,8 @@ use lib.Dec.{lit≤}
 use lib.ListN.{length, getD, take}
 use lib.Pow.{pow-pos, pow-mono}
 use lib.Seq.{length-take-le}
-use Rattle.node.specs.Lists.{insert, remove, all-below, count-from}
+use Rattle.words.specs.Lists.{count-from}
+use Rattle.node.specs.Lists.{insert, remove, all-below}
 use Rattle.node.specs.Slot.{byte, bytes, word-of, count, names, slot, entries}
 use Rattle.words.proofs.Joined.{joined}
 use Rattle.node.proofs.Digits.{length-bytes, bytes-small, bytes-take, bytes-at, low-word, bytes-word-of, word-fits}

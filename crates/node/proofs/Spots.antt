@@ -10,8 +10,8 @@ use borrow.Author.Tests.{eqb-true}
 use lib.Dec.{eqb}
 use lib.ListN.{length}
 use Rattle.words.specs.Tests.{if_then_else_}
+use Rattle.words.proofs.Turns.{turn, over}
 use Rattle.node.specs.Lists.{has, lowest-from}
-use Rattle.node.proofs.Turns.{turn, over}
 
 module _ (n i : ℕ) (ns : List ℕ) where
   pub lowest-here : i < n → has i ns ≡ false → lowest-from i (n - i) ns ≡ i

@@ -1,7 +1,8 @@
 -- Document 01, "Sums done by hand": its slot words, computed by the definitions.
 use mathlib.Core.Path.{_≡_, refl}
 use mathlib.Core.List.{[], _∷_}
-use Rattle.node.specs.Lists.{remove, count-from, lowest-from, has}
+use Rattle.words.specs.Lists.{count-from}
+use Rattle.node.specs.Lists.{remove, lowest-from, has}
 use Rattle.node.specs.Slot.{bytes, word-of, names, slot, spot}
 
 -- the seven entries in order, and with the third taken out; then the spot is that third

@@ -96,6 +96,29 @@ module _ {least lo hi : ℕ} {u : View} where
         g .keys-covered,
       )
 
+-- a good node is sound, with no least
+pub good-sound : {least lo hi : ℕ} (u : View) → Good least lo hi u → sound 0 u ≡ true
+unfolding sound
+good-sound u g =
+    rw (
+      le-leb 0 (length (u .named)) (omega arith),
+      le-leb (length (u .named)) entries (g .most-named),
+      g .names-low,
+      g .names-differ,
+      g .keys-rise,
+    )
+
+-- the parts of a sound node
+pub sound-parts : (u : View) → sound 0 u ≡ true
+    → (length (u .named) ≤ entries) × (all-below entries (u .named) ≡ true) × (rising (keys (u .records)) ≡ true)
+unfolding sound
+sound-parts u t =
+    let n = length (u .named) in
+    let b = both {a = within 0 n entries && all-below entries (u .named) && different (u .named)} {b = rising (keys (u .records))} t in
+    let c = both {a = within 0 n entries && all-below entries (u .named)} {b = different (u .named)} (b .0) in
+    let d = both {a = within 0 n entries} {b = all-below entries (u .named)} (c .0) in
+    (leb-true n entries (both {a = leb 0 n} {b = leb n entries} (d .0) .1), d .1, b .1)
+
 -- the parts of a view: as many as the count says, each record that of its name
 module _ (m : List ℕ) (k : ℕ) where
   pub view-names : view m k .named ≡ names (at m (slot-at k))
@@ -109,6 +132,9 @@ module _ (m : List ℕ) (k : ℕ) where
   pub view-length : length (view m k .records) ≡ count (at m (slot-at k))
   unfolding view
   view-length = length-map (names (at m (slot-at k))) (entry m k) ∙ length-names (at m (slot-at k))
+
+  pub keys-many : length (keys (view m k .records)) ≡ count (at m (slot-at k))
+  keys-many = length-map (view m k .records) (λ (r : Record). r .0) ∙ view-length
 
   pub record-at : (i : ℕ) (d : Record) → i < count (at m (slot-at k))
       → getD (view m k .records) i d ≡ entry m k (getD (names (at m (slot-at k))) i 0)

@@ -13,11 +13,6 @@ insert i x xs = take i xs ++ (x ∷ drop i xs)
 abbrev pub remove : {A : Type 0} → ℕ → List A → List A
 remove i xs = take i xs ++ drop (suc i) xs
 
--- the n numbers from i on
-abbrev pub count-from : ℕ → ℕ → List ℕ
-count-from i zero = []
-count-from i (suc n) = i ∷ count-from (i + 1) n
-
 -- x is one of the list
 unfoldable pub has : ℕ → List ℕ → Bool
 has x [] = false
@@ -46,6 +41,11 @@ covered lo hi (x ∷ xs) = leb lo x && ltb x hi && covered lo hi xs
 unfoldable pub below : ℕ → List ℕ → ℕ
 below x [] = 0
 below x (y ∷ ys) = if ltb y x then suc (below x ys) else 0
+
+-- how many stand before the first that is above x
+unfoldable pub upto : ℕ → List ℕ → ℕ
+upto x [] = 0
+upto x (y ∷ ys) = if ltb x y then 0 else suc (upto x ys)
 
 -- the lowest number from i on, of n, that is not in the list; i + n if there is none
 unfoldable pub lowest-from : ℕ → ℕ → List ℕ → ℕ

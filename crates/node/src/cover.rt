@@ -6,17 +6,21 @@ pub struct Cover {
     pub open: bool,
 }
 
-// Whether a node is good; if so, the rank of a key, and whether it is there.
+// Whether a node is good; if so, how many of its keys are not above a key: those before the child that covers it.
 pub struct Look {
     pub good: bool,
-    pub rank: u64,
-    pub there: bool,
+    pub after: u64,
 }
 
 impl Look {
     pub const BAD: Look = Look {
         good: false,
-        rank: 0,
-        there: false,
+        after: 0,
     };
+}
+
+// The rank of a key in a node, and whether it is there.
+pub struct Place {
+    pub rank: u64,
+    pub there: bool,
 }

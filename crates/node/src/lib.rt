@@ -8,4 +8,5 @@ pub mod slot;
 
 pub use cover::Cover;
 pub use cover::Look;
+pub use cover::Place;
 pub use layout::Node;

@@ -9,7 +9,8 @@ use crate::marks::marks_of;
 ghost use mathlib.Core.Path.{_≡_};
 ghost use Prim.Native.Nat.{_≤_, _<_};
 ghost use lib.ListN.{getD, take};
-ghost use Rattle.node.specs.Lists.{insert, remove, count-from};
+ghost use Rattle.words.specs.Lists.{count-from};
+ghost use Rattle.node.specs.Lists.{insert, remove};
 ghost use Rattle.node.specs.Slot as s;
 
 pub fn count(w: u64) -> u64

@@ -6,17 +6,17 @@ use native.Mathlib.Numerals.{add-one}
 use native.Mathlib.Omega.{arith}
 use lib.ListN.{length, getD, drop, length-append, length-drop, drop-of-length-le}
 use lib.Seq.{drop-cons}
+use Rattle.words.specs.Lists.{count-from}
 use Rattle.words.specs.Pool.{line}
 use Rattle.words.specs.Event.{flush}
 use Rattle.words.specs.Blocks.{stores, stored}
 use Rattle.words.specs.Written.{Wrote}
 use Rattle.words.proofs.Written.{wrote-append}
 use Rattle.words.proofs.Blocks.{length-stores}
-use Rattle.node.specs.Lists.{count-from}
 use Rattle.node.specs.Slot.{slot}
 use Rattle.node.specs.View.{Record, slot-at, link-at}
 use Rattle.change.specs.Steps.{entry-pairs, laid, new-node}
-use Rattle.pool.proofs.Runs.{length-laid, stored-node}
+use Rattle.change.proofs.Lines.{length-laid, stored-node}
 
 -- eight records, of which those from a place on go over
 module _ (es : List Record) (long : length es ≡ 8) where

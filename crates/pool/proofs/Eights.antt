@@ -20,7 +20,8 @@ use Rattle.node.proofs.Slots.{length-names}
 use Rattle.node.proofs.Spots.{lowest-below}
 use Rattle.node.proofs.Views.{key-of, Good, good-parts, parts-good, view-names, view-keys, view-length}
 use Rattle.tree.specs.Kids.{leaf-least}
-use Rattle.change.specs.Steps.{rank, full, eight, lower, lower-slot}
+use Rattle.change.specs.Steps.{rank, full, lower, lower-slot}
+use Rattle.change.proofs.Counts.{length-eight}
 use Rattle.pool.specs.declared.opening.Eight.{Eight}
 use Rattle.pool.specs.Splitting.{Met, Named, Opened, new-of, eight-of}
 
@@ -50,16 +51,6 @@ met-good m k least lo hi fits inside t =
 
 length-named : (m : List ℕ) (k : ℕ) → length (view m k .named) ≡ count (at m (slot-at k))
 length-named m k = ap length (view-names m k) ∙ length-names (at m (slot-at k))
-
-pub length-eight : (m : List ℕ) (k : ℕ) (r : Record) → full (view m k) ≡ true → length (eight (view m k) r) ≡ 8
-length-eight m k r t =
-    omega (
-      arith,
-      length-insert (rank (view m k) (r .0)) r (view m k .records),
-      view-length m k,
-      length-named m k,
-      eqb-true (length (view m k .named)) entries t,
-    )
 
 module _ {m : List ℕ} {k : ℕ} (t : Met m k) where
   parts : Good leaf-least 0 no-end (view m k)

@@ -1,6 +1,6 @@
 -- The refusals that stand before every body, test by test.
 use Prim.Native.Nat.{ℕ, _≤_, _<_}
-use mathlib.Core.Path.{_≡_, refl, _∙_}
+use mathlib.Core.Path.{_≡_, refl, sym, _∙_}
 use mathlib.Core.List.{List}
 use mathlib.Core.Bool.{true, false}
 use lib.ListN.{take, drop}
@@ -8,13 +8,16 @@ use borrow.Author.Tests.{lt-ltb, le-ltb, eq-eqb, ne-eqb}
 use Rattle.words.specs.Pool.{list-words}
 use Rattle.words.specs.declared.refusal.Refusal.{Refusal}
 use Rattle.words.specs.declared.refusal.Refusal.the-variants.{ShortList, NoPool, Unfinished, Damaged}
+use Rattle.words.proofs.Tests.{differ}
 use Rattle.tree.specs.Header.{commit-of, form-agrees}
 use Rattle.tree.specs.Path.{levels-above, way-to}
 use Rattle.tree.specs.declared.descend.Descent.{Descent}
 use Rattle.tree.specs.Descended.{Descended}
-use Rattle.tree.proofs.Leaves.{AtLeaf}
+use Rattle.tree.proofs.Leaves.{AtLeaf, at-leaf as leaf-found}
 use Rattle.change.specs.declared.Outcome.{Outcome}
 use Rattle.change.specs.Gate.{Planned, refused, past-list, past-form, past-gate, at-leaf}
+use Rattle.pool.specs.declared.gate.Gate.{Gate}
+use Rattle.pool.specs.Passing.{Gated}
 
 module _ {A : Type 0} (refuse : Refusal → A) (body : A) where
   pub short-list : (room : ℕ) → room < list-words → past-list refuse room body ≡ refuse ShortList
@@ -39,39 +42,47 @@ module _ {A : Type 0} (refuse : Refusal → A) (body : A) where
     pub gate-open : form-agrees m ≡ true → commit-of m ≡ 0 → past-gate refuse m body ≡ body
     gate-open f z = rw (f, eq-eqb (commit-of m) 0 z)
 
--- 4, or what is done at the leaf
-module _ (m : List ℕ) (key : ℕ) (d : Descent) (body : ℕ → List ℕ → Planned Outcome) where
-  pub way-damaged : Descended m key d → d .found ≡ false → at-leaf body (way-to m key) ≡ refused Damaged
-  way-damaged w t = rw (w .way-is, t) refl
+-- a gate that is shut, and one that is open: 4, or what is done at the leaf
+pub gate-shut : {m : List ℕ} {key : ℕ} {g : Gate} → g .way .found ≡ false
+    → ((body : ℕ → List ℕ → Planned Outcome) → past-gate refused m (at-leaf body (way-to m key)) ≡ refused (g .why)) → Gated m key g
+gate-shut f r = record {
+  shut = λ t. r;
+  form-is = λ t. absurd (differ (sym t ∙ f));
+  finished = λ t. absurd (differ (sym t ∙ f));
+  way-is = λ t. absurd (differ (sym t ∙ f));
+}
 
-  pub way-found : AtLeaf m key d → at-leaf body (way-to m key) ≡ body (d .leaf) (take (levels-above m) (drop 1 (d .path)))
-  way-found a = rw (a .way-is) refl
+pub gate-passed : {m : List ℕ} {key : ℕ} {d : Descent} → form-agrees m ≡ true → commit-of m ≡ 0 → Descended m key d
+    → Gated m key (record { why = Damaged; way = d })
+gate-passed {m} {key} f z w = record {
+  shut = λ t body. gate-open refused (at-leaf body (way-to m key)) m f z ∙ rw (w .way-is, t) refl;
+  form-is = λ t. f;
+  finished = λ t. z;
+  way-is = λ t. w;
+}
 
--- a call that plans at the leaf of a key: 1, 2, 3, 4, then its body
+module _ {m : List ℕ} {key : ℕ} {g : Gate} (p : Gated m key g) (t : g .way .found ≡ true) where
+  pub found-leaf : AtLeaf m key (g .way)
+  found-leaf = leaf-found m key (g .way) (p .form-is t) (p .way-is t) t
+
+  pub gate-at : (body : ℕ → List ℕ → Planned Outcome)
+      → past-gate refused m (at-leaf body (way-to m key)) ≡ body (g .way .leaf) (take (levels-above m) (drop 1 (g .way .path)))
+  gate-at body = gate-open refused (at-leaf body (way-to m key)) m (p .form-is t) (p .finished t) ∙ rw (found-leaf .way-is) refl
+
+-- a call that plans at the leaf of a key: 1, then those, then its body
 module _ (room : ℕ) (m : List ℕ) (key : ℕ) (body : ℕ → List ℕ → Planned Outcome) where
   abbrev down : Planned Outcome
-  down = at-leaf body (way-to m key)
+  down = past-gate refused m (at-leaf body (way-to m key))
 
   abbrev pub call : Planned Outcome
-  call = past-list refused room (past-gate refused m down)
+  call = past-list refused room down
 
   pub call-short : room < list-words → call ≡ refused ShortList
-  call-short h = short-list refused (past-gate refused m down) room h
+  call-short h = short-list refused down room h
 
-  module _ (long : list-words ≤ room) where
-    opened : call ≡ past-gate refused m down
-    opened = long-list refused (past-gate refused m down) room long
+  module _ (long : list-words ≤ room) {g : Gate} (p : Gated m key g) where
+    pub call-shut : g .way .found ≡ false → call ≡ refused (g .why)
+    call-shut t = long-list refused down room long ∙ p .shut t body
 
-    pub call-no-pool : form-agrees m ≡ false → call ≡ refused NoPool
-    call-no-pool f = opened ∙ gate-no-pool refused down m f
-
-    module _ (f : form-agrees m ≡ true) where
-      pub call-unfinished : (commit-of m ≡ 0 → ⊥) → call ≡ refused Unfinished
-      call-unfinished n = opened ∙ gate-unfinished refused down m f n
-
-      module _ (z : commit-of m ≡ 0) (d : Descent) where
-        pub call-damaged : Descended m key d → d .found ≡ false → call ≡ refused Damaged
-        call-damaged w t = opened ∙ gate-open refused down m f z ∙ way-damaged m key d body w t
-
-        pub call-at : AtLeaf m key d → call ≡ body (d .leaf) (take (levels-above m) (drop 1 (d .path)))
-        call-at a = opened ∙ gate-open refused down m f z ∙ way-found m key d body a
+    pub call-at : g .way .found ≡ true → call ≡ body (g .way .leaf) (take (levels-above m) (drop 1 (g .way .path)))
+    call-at t = long-list refused down room long ∙ gate-at p t body

@@ -5,7 +5,7 @@ use mathlib.Core.List.{List, [], _∷_, _++_, append-nil}
 use mathlib.Core.Bool.{Bool, true, false}
 use native.Mathlib.Nat.{sub-zero}
 use native.Mathlib.Omega.{arith}
-use lib.ListN.{length, take, drop, getD, length-append, length-drop, drop-of-length-le}
+use lib.ListN.{length, take, drop, getD, length-drop, drop-of-length-le}
 use lib.Seq.{drop-cons, length-take-le, getD-take}
 use lib.Dec.{ltb}
 use Rattle.words.specs.Tests.{if_then_else_}
@@ -16,20 +16,21 @@ use Rattle.words.specs.Written.{written, Wrote}
 use Rattle.words.proofs.Written.{wrote-append}
 use Rattle.node.specs.Lists.{insert}
 use Rattle.node.specs.Slot.{bytes, names, slot, spot}
-use Rattle.node.specs.View.{Record, View, view, slot-at, link-at}
+use Rattle.node.specs.View.{Record, view, slot-at, link-at}
 use Rattle.node.proofs.Views.{view-names}
 use Rattle.tree.specs.Header.{root-of}
 use Rattle.change.specs.Steps.{rank, full, entry-pairs, eight, fifth, lower, new-node, lower-slot, staying-pairs}
 use Rattle.change.specs.Plan.{new-nodes}
 use Rattle.change.specs.Put.{supply, used-with, rise, split}
 use Rattle.change.proofs.Lines.{node-events}
+use Rattle.change.proofs.Counts.{length-eight}
 use Rattle.pool.specs.declared.opening.Eight.{Eight}
 use Rattle.pool.specs.declared.rising.Up.{Up}
 use Rattle.pool.specs.declared.rising.Tally.{Tally}
 use Rattle.pool.specs.Splitting.{Named, Opened, new-of, eight-of, if-stays, Noted, up-of, Level, LeafLevel, InnerLevel}
-use Rattle.pool.specs.Splitting.{taken-pairs, new-root, Done, levels}
+use Rattle.pool.specs.Splitting.{parent-pairs, new-root, Done, levels}
 use Rattle.pool.proofs.Notes.{noted-append}
-use Rattle.pool.proofs.Eights.{length-eight, opened-eight, slot-lower}
+use Rattle.pool.proofs.Eights.{opened-eight, slot-lower}
 use Rattle.pool.proofs.Builds.{one-line, two-lines}
 
 -- the pairs of a split level, from what its calls have noted
@@ -85,14 +86,6 @@ stays-few f = go (ltb (f .rank) lower)
     go true = omega arith
     go false = omega arith
 
-pub staying-few : (k : ℕ) (u : View) (r : Record) (ws : List Pair) → length (staying-pairs k u r ws) ≤ 3 + length ws
-unfolding staying-pairs
-staying-few k u r ws = go (ltb (rank u (r .0)) lower) refl
-  where
-    go : (b : Bool) → ltb (rank u (r .0)) lower ≡ b → length (staying-pairs k u r ws) ≤ 3 + length ws
-    go true t = simp (t, length-append) (omega arith)
-    go false t = simp (t, length-append) (omega arith)
-
 pub upper-events : (m : List ℕ) (k new link from : ℕ) (r : Record) → full (view m k) ≡ true
     → length (stored (new-node new link (drop from (eight (view m k) r)))) ≤ 3 + 2 * (8 - from) + (1 + 2 * (8 - from)) / 8
 upper-events m k new link from r t =
@@ -137,7 +130,7 @@ module _ (m : List ℕ) (i : ℕ) {u : Up} {l g : List ℕ} where
       rw e (record { wrote = wrote-append (v .wrote) (d′ .wrote); noted = noted-append (v .noted) (d′ .noted) })
 
   pub rise-room : (k : ℕ) (above : List ℕ) {used c : ℕ} {g₁ : List ℕ} → full (view m k) ≡ false → used ≡ used-with m i
-      → Noted (taken-pairs m k used u) (u .pairs) g c g₁
+      → Noted (parent-pairs m k used u) (u .pairs) g c g₁
       → Done (rise m (k ∷ above) (up-of u) i) u l g (record { events = u .events; pairs = c }) l g₁
   unfolding rise new-nodes written
   rise-room k above e q a = rw e (record { wrote = record { next = omega arith; list = refl }; noted = rw (← q) a })
@@ -150,7 +143,7 @@ module _ (m : List ℕ) (i : ℕ) {u : Up} {l g : List ℕ} where
 pub takes : (m : List ℕ) (k used : ℕ) (u : Up) {w r e c c₁ c₂ c₃ : ℕ} {g g₁ g₂ g₃ : List ℕ} → w ≡ at m (slot-at k)
     → r ≡ rank (view m k) (u .key) → e ≡ spot (names w) → Noted (entry-pairs k e (up-of u)) c g c₁ g₁
     → Noted ((slot-at k, slot (insert r e (names w))) ∷ []) c₁ g₁ c₂ g₂ → Noted ((used-at, used) ∷ []) c₂ g₂ c₃ g₃
-    → Noted (taken-pairs m k used u) c g c₃ g₃
+    → Noted (parent-pairs m k used u) c g c₃ g₃
 takes m k used u is er es a b d = rw (view-names m k, ← is, ← es, ← er) (noted-append a (noted-append b d))
 
 -- and of a new root

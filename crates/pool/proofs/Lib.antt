@@ -8,7 +8,6 @@ pub mod Recovers
 pub mod Puts
 pub mod Loops
 pub mod Notes
-pub mod Runs
 pub mod Eights
 pub mod Builds
 pub mod Logs

@@ -2,22 +2,17 @@
 use Prim.Native.Nat.{ℕ, zero, suc, _+_, _≤_, _<_}
 use mathlib.Core.Path.{_≡_, _∙_}
 use mathlib.Core.List.{List, [], _∷_}
-use mathlib.Core.Bool.{Bool, true, false}
 use native.Mathlib.Omega.{arith}
 use lib.Dec.{eqb}
 use lib.ListN.{length, getD, take, set}
 use lib.Seq.{length-take-le, take-set-lt, getD-take}
-use Rattle.words.specs.Tests.{if_then_else_}
+use Rattle.words.proofs.Tests.{at-most-one}
 use Rattle.tree.specs.Lists.{occ}
 
 pub unmarked-most : (n : ℕ) (l : List ℕ) → occ 0 (take n l) ≤ n
 unmarked-most zero l = omega arith
 unmarked-most (suc n) [] = omega arith
-unmarked-most (suc n) (x ∷ l) = omega (arith, at-most (eqb 0 x), unmarked-most n l)
-  where
-    at-most : (b : Bool) → (if b then 1 else 0) ≤ 1
-    at-most true = omega arith
-    at-most false = omega arith
+unmarked-most (suc n) (x ∷ l) = omega (arith, at-most-one (eqb 0 x), unmarked-most n l)
 
 one-less : (l : List ℕ) (i : ℕ) → i < length l → getD l i 0 ≡ 0 → occ 0 (set l i 1) + 1 ≡ occ 0 l
 one-less [] i h e = absurd (omega arith)

@@ -3,33 +3,21 @@ use Prim.Native.Nat.{ℕ, zero, suc, _<_}
 use mathlib.Core.Path.{_≡_}
 use mathlib.Core.List.{List, [], _∷_}
 use mathlib.Core.Bool.{true}
-use native.Mathlib.Omega.{arith}
 use Rattle.words.specs.Tests.{within}
 use Rattle.words.specs.Event.{at}
-use Rattle.words.proofs.Tests.{within-says}
 use Rattle.node.specs.View.{view, no-end}
-use Rattle.node.specs.Looked.{Inside}
 use Rattle.tree.specs.Header.{used-of, form-agrees, counts-agree}
 use Rattle.tree.specs.Kids.{Kid, pick, root-kid, leaf-least, inner-least, fits}
 use Rattle.tree.specs.Path.{Way, leaf, parent, way, levels-above, way-to}
 use Rattle.tree.specs.Lists.{Each}
-use Rattle.tree.proofs.Form.{form, counts}
 use Rattle.tree.proofs.Path.{Passed, passed, way-to-counts, way-to-down}
+use Rattle.tree.proofs.Ways.{inside}
 use Rattle.pool.specs.Splitting.{Met}
 use Rattle.pool.proofs.Eights.{met-good}
 
 module _ (m : List ℕ) (words : (i : ℕ) → at m i < no-end) (agree : form-agrees m ≡ true) (bounded : counts-agree m ≡ true) where
   met-in : (least : ℕ) (c : Kid) → within 1 (c .number) (used-of m) ≡ true → fits least c (view m (c .number)) ≡ true → Met m (c .number)
-  met-in least c t g =
-      let f = form m agree in
-      let u = counts m bounded .used in
-      let n = within-says 1 (c .number) (used-of m) t in
-      let inside : Inside m (c .number) = record {
-        first = n .0;
-        most = omega (arith, n .1, u .1, f .capacity .1);
-        within = omega (arith, n .0, n .1, u .1, f .total, f .room);
-      } in
-      met-good m (c .number) least (c .from) (c .upto) words inside g
+  met-in least c t g = met-good m (c .number) least (c .from) (c .upto) words (inside m agree bounded (c .number) t) g
 
   way-met : (n key : ℕ) (c : Kid) (up : List ℕ) {k : ℕ} {above : List ℕ} → Each (Met m) up → way n m key c up ≡ leaf k above
       → Each (Met m) (k ∷ above)

@@ -1,29 +1,27 @@
--- Recover: its loops over the log, turn by turn, and its returns.
-use Prim.Native.Nat.{ℕ, suc, _+_, _-_, _*_, _≤_, _<_}
-use mathlib.Core.Path.{_≡_, refl, sym, _∙_, ap}
+-- Recover: the test of its log, turn by turn, what (d) and (e) are handed, and its returns.
+use Prim.Native.Nat.{ℕ, _+_, _-_, _*_, _≤_, _<_}
+use mathlib.Core.Path.{_≡_, refl, sym, _∙_}
 use mathlib.Core.List.{List, [], _∷_}
 use mathlib.Core.Bool.{Bool, true, false, and-false, not, _&&_}
-use native.Mathlib.Nat.{sub-zero}
 use native.Mathlib.Omega.{arith}
 use lib.ListN.{length}
 use lib.Dec.{leb, ltb}
 use borrow.Author.Tests.{le-leb, lt-leb, lt-ltb, le-ltb, ltb-true, leb-true, leb-false, eq-eqb, ne-eqb}
 use Rattle.words.specs.Tests.{within}
 use Rattle.words.specs.Pool as p
-use Rattle.words.specs.Event.{Event, at, store, flush, fence, top-byte}
-use Rattle.words.specs.Blocks.{Pair, once, replay}
-use Rattle.words.specs.Written.{written, Wrote}
+use Rattle.words.specs.Event.{Event, at}
+use Rattle.words.specs.Blocks.{Pair}
 use Rattle.words.specs.declared.refusal.Refusal.the-variants.{ShortList, NoPool, BadLog}
 use Rattle.words.proofs.Tests.{both}
-use Rattle.words.proofs.Blocks.{length-replay}
-use Rattle.words.proofs.Written.{length-written, wrote-append}
+use Rattle.words.proofs.Turns.{turn, over}
 use Rattle.tree.specs.Header.{total-in, commit-of, form-agrees}
 use Rattle.tree.proofs.Form.{Form, form}
 use Rattle.change.specs.declared.Recovery.the-variants.{Clean, Recovered}
 use Rattle.change.specs.Gate.{quiet, past-form}
-use Rattle.change.specs.Plan.{log-replayed, log-finished}
+use Rattle.change.specs.Plan.{log-finished}
 use Rattle.change.specs.Recover.{log-pairs, may-store, all-may-store, log-agrees, refuse, recover-past-form, recover}
-use Rattle.change.proofs.Counts.{length-log-pairs}
+use Rattle.change.proofs.Recover.{log-says}
+use Rattle.pool.specs.Splitting.{Near}
 use Rattle.pool.proofs.Gates.{short-list, long-list, no-pool, a-pool}
 
 -- a pair's address
@@ -67,15 +65,14 @@ module _ (m : List ℕ) (c i : ℕ) where
 
   log-over : c ≤ i → from ≡ []
   unfolding log-pairs
-  log-over h = let over : c - i ≡ 0 = omega arith in rw over
+  log-over h = rw (over c i h)
 
   module _ (h : i < c) where
     log-turn : from ≡ (at m (pair-at i), at m (pair-at i + 1)) ∷ next
     unfolding log-pairs
     log-turn =
-        let left : c - i ≡ suc (c - (i + 1)) = omega arith in
         let up : pair-at (i + 1) ≡ pair-at i + 2 = omega arith in
-        rw (left, up)
+        rw (turn c i h, up)
 
     pub test-on : (total : ℕ) → may-store total (at m (pair-at i)) ≡ true → all-may-store total from ≡ all-may-store total next
     unfolding all-may-store
@@ -85,25 +82,10 @@ module _ (m : List ℕ) (c i : ℕ) where
     unfolding all-may-store
     test-stops total t = rw (log-turn, t)
 
-    tested : (total : ℕ) → all-may-store total from ≡ true → (at m (pair-at i) < total) × (all-may-store total next ≡ true)
-    unfolding all-may-store
-    tested total t =
-        let b = both {a = may-store total (at m (pair-at i))} {b = all-may-store total next} (rw log-turn at t) in
-        (may-store-low total (at m (pair-at i)) (b .0), b .1)
-
-    replay-turn : {a a₁ a₂ : ℕ} {l l₁ l₂ : List ℕ} → Wrote (store (at m (pair-at i)) (at m (pair-at i + 1)) ∷ []) a l a₁ l₁
-        → Wrote (flush (p.line (at m (pair-at i))) ∷ []) a₁ l₁ a₂ l₂ → written (replay from) a l ≡ written (replay next) a₂ l₂
-    unfolding written replay
-    replay-turn s f = rw (log-turn, f .next, f .list, s .next, s .list) refl
-
   module _ (h : c ≤ i) where
     pub test-ends : (total : ℕ) → all-may-store total from ≡ true
     unfolding all-may-store
     test-ends total = rw (log-over h)
-
-    replay-ends : (a : ℕ) (l : List ℕ) → written (replay from) a l ≡ l
-    unfolding written replay
-    replay-ends a l = rw (log-over h)
 
 -- the log's test
 module _ (m : List ℕ) where
@@ -116,66 +98,23 @@ module _ (m : List ℕ) where
   unfolding log-agrees
   few-pairs h t = rw (le-leb (commit-of m) p.pairs-most h) (sym t)
 
-  pub log-says : log-agrees m ≡ true
-      → (commit-of m ≤ p.pairs-most) × (all-may-store (total-in m) (log-pairs (commit-of m) p.pairs-at m) ≡ true)
-  unfolding log-agrees
-  log-says t =
-      let b = both {a = leb (commit-of m) p.pairs-most} {b = all-may-store (total-in m) (log-pairs (commit-of m) p.pairs-at m)} t in
-      (leb-true (commit-of m) p.pairs-most (b .0), b .1)
+-- addresses that may be stored to fit an event
+near : {total : ℕ} → total ≤ p.total-of p.capacity-most → (ps : List Pair) → all-may-store total ps ≡ true → Near ps
+unfolding all-may-store
+near h [] t = tt
+near {total} h (q ∷ ps) t =
+    let b = both {a = may-store total (q .0)} {b = all-may-store total ps} t in
+    (omega (arith, may-store-low total (q .0) (b .0)), near h ps (b .1))
 
--- the replay of c pairs, with i of them written, after n events, into the list l that was l₀
-pub record Replaying (m : List ℕ) (c : ℕ) (l₀ : List ℕ) (l : List ℕ) (n i : ℕ) : Type 0 where
-  pub least : p.words-least ≤ length m
-  pub near : total-in m ≤ p.total-of p.capacity-most
-  pub few : c ≤ p.pairs-most
-  pub most : i ≤ c
-  pub count : n ≡ 2 * i
-  pub size : length l ≡ length l₀
-  pub may : all-may-store (total-in m) (from m c i) ≡ true
-  pub rest : written (replay (log-pairs c p.pairs-at m)) 0 l₀ ≡ written (replay (from m c i)) n l
+-- what (d) and (e) of a log that agrees are handed
+module _ (m : List ℕ) (f : form-agrees m ≡ true) (t : log-agrees m ≡ true) where
+  pub log-fits : (commit-of m ≤ p.pairs-most) × (p.pairs-at + 2 * commit-of m ≤ length m)
+  log-fits = (log-says m t .0, omega (arith, log-says m t .0, form m f .least))
 
-pub replay-starts : (m : List ℕ) → form-agrees m ≡ true → log-agrees m ≡ true → (l : List ℕ) → Replaying m (commit-of m) l l 0 0
-replay-starts m f t l =
-    let h : Form m = form m f in
-    record {
-      least = h .least;
-      near = omega (arith, h .total, h .capacity .1);
-      few = log-says m t .0;
-      most = omega arith;
-      count = refl;
-      size = refl;
-      may = rw sub-zero (log-says m t .1);
-      rest = rw sub-zero refl;
-    }
-
-module _ {m : List ℕ} {c : ℕ} {l₀ l : List ℕ} {n i : ℕ} (r : Replaying m c l₀ l n i) where
-  pub word-near : i < c → at m (pair-at i) < top-byte
-  word-near h = omega (arith, r .near, tested m c i h (total-in m) (r .may) .0)
-
-  pub replay-on : i < c → {n₁ n₂ : ℕ} {l₁ l₂ : List ℕ} → Wrote (store (at m (pair-at i)) (at m (pair-at i + 1)) ∷ []) n l n₁ l₁
-      → Wrote (flush (p.line (at m (pair-at i))) ∷ []) n₁ l₁ n₂ l₂ → Replaying m c l₀ l₂ n₂ (i + 1)
-  replay-on h {l₁ = l₁} s f = record {
-    least = r .least;
-    near = r .near;
-    few = r .few;
-    most = omega arith;
-    count = omega (arith, f .next, s .next, r .count);
-    size = ap length (f .list) ∙ length-written _ _ _ ∙ ap length (s .list) ∙ length-written _ _ _ ∙ r .size;
-    may = tested m c i h (total-in m) (r .may) .1;
-    rest = r .rest ∙ replay-turn m c i h s f;
-  }
-
-  pub replay-done : c ≤ i → Wrote (replay (log-pairs c p.pairs-at m)) 0 l₀ n l
-  replay-done h = record {
-    next = rw (length-replay, length-log-pairs) (omega (arith, r .most, r .count));
-    list = sym (r .rest ∙ replay-ends m c i h n l);
-  }
-
-pub replayed-few : (m : List ℕ) → log-agrees m ≡ true → {n : ℕ} {l l′ : List ℕ}
-    → Wrote (replay (log-pairs (commit-of m) p.pairs-at m)) 0 l n l′ → n ≤ 2 * p.pairs-most
-replayed-few m t w =
-    let ps = log-pairs (commit-of m) p.pairs-at m in
-    omega (arith, w .next, length-replay ps, length-log-pairs (commit-of m) p.pairs-at m, log-says m t .0)
+  pub log-near : Near (log-pairs (commit-of m) p.pairs-at m)
+  log-near =
+      let h : Form m = form m f in
+      near (omega (arith, h .total, h .capacity .1)) (log-pairs (commit-of m) p.pairs-at m) (log-says m t .1)
 
 -- the returns
 module _ (room : ℕ) (m : List ℕ) where
@@ -208,9 +147,3 @@ module _ (room : ℕ) (m : List ℕ) where
         pub recover-done : log-agrees m ≡ true → recover room m ≡ record { answer = Recovered (commit-of m) (length es); events = es }
         unfolding recover-past-form
         recover-done t = past ∙ rw (ne-eqb (commit-of m) 0 some, t)
-
--- (d) and (e) as they are written
-pub finished : (ps : List Pair) {n n₁ n₂ n₃ : ℕ} {l l₁ l₂ l₃ : List ℕ} → Wrote (replay ps) n l n₁ l₁ → Wrote (fence ∷ []) n₁ l₁ n₂ l₂
-    → Wrote (once p.commit-at 0) n₂ l₂ n₃ l₃ → Wrote (log-finished ps) n l n₃ l₃
-unfolding log-finished log-replayed
-finished ps a b c = wrote-append (wrote-append a b) c

@@ -1,8 +1,8 @@
 -- What each call of a split is handed, from what its caller was handed and what was done before.
 use Prim.Native.Nat.{ℕ, suc, _+_, _-_, _*_, _/_, _≤_, _<_}
-use mathlib.Core.Path.{_≡_, refl, _∙_, ap, sym}
+use mathlib.Core.Path.{_≡_, _∙_, ap, sym}
 use mathlib.Core.List.{List, [], _∷_}
-use mathlib.Core.Bool.{Bool, true, false}
+use mathlib.Core.Bool.{true, false}
 use native.Mathlib.Omega.{arith}
 use lib.ListN.{length, take, getD}
 use lib.Seq.{length-take-le}
@@ -18,12 +18,13 @@ use Rattle.change.specs.Plan.{Plan, log-events, plan-events}
 use Rattle.change.specs.Recover.{log-pairs}
 use Rattle.change.specs.Put.{supply, used-with, rise, split, needed}
 use Rattle.change.specs.Most.{split-levels}
-use Rattle.change.proofs.Counts.{levels-full, levels-room, needed-full, needed-room, plan-count, counted, no-more, pairs-few}
+use Rattle.change.proofs.Counts.{staying-few, needed-full, needed-room, plan-count, counted, no-more, pairs-few}
+use Rattle.change.proofs.Most.{depth}
 use Rattle.pool.specs.declared.rising.Up.{Up}
 use Rattle.pool.specs.declared.rising.Tally.{Tally}
-use Rattle.pool.specs.Splitting.{Met, Near, Noted, up-of, Room, LeafLevel, InnerLevel, taken-pairs, Done}
+use Rattle.pool.specs.Splitting.{Met, Near, Noted, up-of, Room, LeafLevel, InnerLevel, parent-pairs, Done}
 use Rattle.pool.specs.Splitting.{levels, Ready, ToSplit}
-use Rattle.pool.proofs.Levels.{staying-few, upper-events, levels-none, levels-some, path-levels}
+use Rattle.pool.proofs.Levels.{upper-events, levels-none, levels-some, path-levels}
 use Rattle.pool.proofs.Levels.{rise-full, rise-room, split-done}
 
 module _ {m path : List ℕ} {height left size : ℕ} {u : Up} (rd : Ready m path height left u size) where
@@ -67,7 +68,7 @@ module _ {m path : List ℕ} {height left size : ℕ} {u : Up} (rd : Ready m pat
     ready-pairs = omega (arith, more, rd .pairs, rd .high, rd .some)
 
     pub ready-room : {used c : ℕ} {l g g₁ : List ℕ} → full (view m here) ≡ false → used ≡ used-with m (height - left)
-        → Noted (taken-pairs m here used u) (u .pairs) g c g₁
+        → Noted (parent-pairs m here used u) (u .pairs) g c g₁
         → Done (rise m (levels path height left) (up-of u) (height - left)) u l g (record { events = u .events; pairs = c }) l g₁
     ready-room e q a = rw level (rise-room m (height - left) here rest e q a)
 
@@ -128,26 +129,6 @@ module _ (m path : List ℕ) (height left : ℕ) (high : height ≤ 8) (some : l
     needed-kept t =
         ap (needed m) (levels-some path height eight-long high left some more)
         ∙ needed-room m (getD path (height - left) 0) (levels path height (left - 1)) t
-
--- the levels split and the new root, by the length of the path
-record Depth (m path : List ℕ) : Type 0 where
-  low : split-levels m path ≤ needed m path
-  high : needed m path ≤ split-levels m path + 1
-  long : split-levels m path + 1 ≤ length path + (needed m path - split-levels m path)
-
-depth : (m path : List ℕ) → Depth m path
-depth m [] = unfold split-levels needed in (record { low = omega arith; high = omega arith; long = omega arith })
-depth m (k ∷ above) = go (depth m above) (full (view m k)) refl
-  where
-    go : Depth m above → (b : Bool) → full (view m k) ≡ b → Depth m (k ∷ above)
-    go d true t =
-        let e = levels-full m k above t in
-        let f = needed-full m k above t in
-        record { low = omega (arith, d .low); high = omega (arith, d .high); long = omega (arith, d .long, d .low) }
-    go d false t =
-        let e = levels-room m k above t in
-        let f = needed-room m k above t in
-        record { low = omega arith; high = omega arith; long = omega arith }
 
 -- a put into a full leaf
 module _ {m path : List ℕ} {height w rank key size : ℕ} (sp : ToSplit m path height w rank key size) (eight-long : length path ≡ 8) where

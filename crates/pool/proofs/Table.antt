@@ -6,8 +6,8 @@ use mathlib.Core.Bool.{Bool, true, _&&_}
 use native.Mathlib.Omega.{arith}
 use lib.ListN.{length, getD}
 use lib.Dec.{T, eqb, eqb→eq}
+use Rattle.words.proofs.Tests.{both-hold}
 use Rattle.change.specs.Most.{most}
-use Rattle.change.proofs.Rows.{both}
 
 -- seven entries for each row
 abbrev formula : ℕ → ℕ
@@ -22,10 +22,10 @@ right-at : (i : ℕ) (xs : List ℕ) → T (right-from i xs) → (k : ℕ) → k
 right-at i [] t k h = absurd (omega arith)
 right-at i (x ∷ xs) t zero h =
     let e : i + 0 ≡ i = omega arith in
-    rw e (eqb→eq x (formula i) (both (eqb x (formula i)) (right-from (suc i) xs) t .0))
+    rw e (eqb→eq x (formula i) (both-hold (eqb x (formula i)) (right-from (suc i) xs) t .0))
 right-at i (x ∷ xs) t (suc k) h =
     let e : i + suc k ≡ suc i + k = omega arith in
-    rw e (right-at (suc i) xs (both (eqb x (formula i)) (right-from (suc i) xs) t .1) k (omega arith))
+    rw e (right-at (suc i) xs (both-hold (eqb x (formula i)) (right-from (suc i) xs) t .1) k (omega arith))
 
 pub most-at : (xs : List ℕ) → length xs ≡ 14 → T (right-from 0 xs) → (l r : ℕ) → 1 ≤ l → l ≤ 7 → r ≤ 1
     → getD xs (r * 7 + l - 1) 0 ≡ most r l

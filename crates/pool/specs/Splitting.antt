@@ -104,8 +104,8 @@ InnerLevel m k new u =
     (s.fifth v (up-of u) .0) new u
 
 -- the pairs of the node with room: "key, child (lowest unused entry), slot word of the parent that took the last one; then used"
-abbrev pub taken-pairs : List ℕ → ℕ → ℕ → Up → List Pair
-taken-pairs m k used u =
+abbrev pub parent-pairs : List ℕ → ℕ → ℕ → Up → List Pair
+parent-pairs m k used u =
     let v = view m k in
     entry-pairs k (s.parent-spot v) (up-of u) ++ ((slot-at k, s.taken-slot v (u .key) (s.parent-spot v)) ∷ (p.used-at, used) ∷ [])
 

@@ -1,10 +1,9 @@
 // Delete: a leaf's slot word without the name of a key.
 use crate::answers::quiet;
+use crate::gate::pass_gate;
 use change::Answer;
 use change::Outcome;
 use node::slot::without_name;
-use tree::descend::descend;
-use tree::header::form_agrees;
 use words::Pool;
 use words::Refusal;
 use words::write_once;
@@ -18,15 +17,11 @@ pub fn delete(pool: &[u64], list: &mut [u64], key: u64) -> Answer
     if (list.len() as u64) < Pool::LIST_WORDS {
         return quiet(Outcome::Refused(Refusal::ShortList));
     }
-    if !form_agrees(pool) {
-        return quiet(Outcome::Refused(Refusal::NoPool));
-    }
-    if pool[Pool::COMMIT_AT as usize] != 0 {
-        return quiet(Outcome::Refused(Refusal::Unfinished));
-    }
-    let way = descend(pool, key);
+    let gate = pass_gate(pool, key);
+    let way = gate.way;
     if !way.found {
-        return quiet(Outcome::Refused(Refusal::Damaged));
+        let why = gate.why;
+        return quiet(Outcome::Refused(why));
     }
     if !way.there {
         return quiet(Outcome::Absent);

@@ -1,26 +1,19 @@
 // Fetch: what stands under a key.
+use crate::gate::pass_gate;
 use change::Outcome;
 use node::layout::record_value;
 use node::slot::name;
-use tree::descend::descend;
-use tree::header::form_agrees;
-use words::Pool;
-use words::Refusal;
 ghost use mathlib.Core.Path.{_≡_};
 ghost use Rattle.change.specs.Calls.{fetch-answer};
 
 pub fn fetch(pool: &[u64], key: u64) -> Outcome
     ensures { λ r. ⌜ r ≡ fetch-answer (now (pool .entry)) key ⌝ }
 {
-    if !form_agrees(pool) {
-        return Outcome::Refused(Refusal::NoPool);
-    }
-    if pool[Pool::COMMIT_AT as usize] != 0 {
-        return Outcome::Refused(Refusal::Unfinished);
-    }
-    let way = descend(pool, key);
+    let gate = pass_gate(pool, key);
+    let way = gate.way;
     if !way.found {
-        return Outcome::Refused(Refusal::Damaged);
+        let why = gate.why;
+        return Outcome::Refused(why);
     }
     if !way.there {
         return Outcome::Absent;

@@ -6,6 +6,7 @@ mod crowded;
 mod deleting;
 mod fetching;
 mod formatting;
+mod gate;
 mod logging;
 mod most;
 mod opening;

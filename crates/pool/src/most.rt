@@ -25,7 +25,7 @@ impl Splits {
     ];
 
     // For so many split levels; roots is 1 for a new root, 0 where the root is kept.
-    pub fn most_events(levels: u64, roots: u64) -> u64
+    fn most_events(levels: u64, roots: u64) -> u64
         requires { ⌜ (1 ≤ levels) × (levels ≤ 7) × (roots ≤ 1) ⌝ }
         ensures { λ r. ⌜ r ≡ most roots levels ⌝ }
     {

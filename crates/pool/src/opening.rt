@@ -4,6 +4,7 @@ use node::bytes::byte_at;
 use node::layout::record_key;
 use node::layout::record_value;
 use node::look::look;
+use node::look::place;
 use node::slot::eight_names;
 use node::slot::spot_of;
 ghost use mathlib.Core.Path.{_≡_};
@@ -47,8 +48,9 @@ pub fn rank_of(pool: &[u64], k: u64, w: u64, key: u64) -> u64
         hi: 0,
         open: true,
     };
-    let found = look(pool, k, w, 0, every, key);
-    found.rank
+    let seen = look(pool, k, w, 0, every, key);
+    let at = place(pool, k, w, seen.after, key);
+    at.rank
 }
 
 // Full node k, whose slot word is w, with a new record at its rank.

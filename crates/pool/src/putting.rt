@@ -1,6 +1,7 @@
 // Put: a key and its value into the leaf of the key.
 use crate::answers::quiet;
 use crate::crowded::put_full;
+use crate::gate::pass_gate;
 use change::Answer;
 use change::Outcome;
 use node::Node;
@@ -8,8 +9,6 @@ use node::slot::count;
 use node::slot::name;
 use node::slot::spot;
 use node::slot::with_name;
-use tree::descend::descend;
-use tree::header::form_agrees;
 use words::Pool;
 use words::Refusal;
 use words::write_fence;
@@ -57,15 +56,11 @@ pub fn put(pool: &[u64], list: &mut [u64], key: u64, value: u64) -> Answer
     if (list.len() as u64) < Pool::LIST_WORDS {
         return quiet(Outcome::Refused(Refusal::ShortList));
     }
-    if !form_agrees(pool) {
-        return quiet(Outcome::Refused(Refusal::NoPool));
-    }
-    if pool[Pool::COMMIT_AT as usize] != 0 {
-        return quiet(Outcome::Refused(Refusal::Unfinished));
-    }
-    let way = descend(pool, key);
+    let gate = pass_gate(pool, key);
+    let way = gate.way;
     if !way.found {
-        return quiet(Outcome::Refused(Refusal::Damaged));
+        let why = gate.why;
+        return quiet(Outcome::Refused(why));
     }
     if way.there {
         let events = replace(list, way.leaf, way.slot, way.rank, value);

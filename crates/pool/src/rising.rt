@@ -24,7 +24,7 @@ ghost use Rattle.node.specs.View.{slot-at};
 ghost use Rattle.tree.specs.Header.{height-of};
 ghost use Rattle.tree.specs.Lists.{Each};
 ghost use Rattle.change.specs.Put.{rise, needed};
-ghost use Rattle.pool.specs.Splitting.{Met, Noted, Room, InnerLevel, taken-pairs, new-root, Done, up-of, levels, Ready};
+ghost use Rattle.pool.specs.Splitting.{Met, Noted, Room, InnerLevel, parent-pairs, new-root, Done, up-of, levels, Ready};
 
 // A key goes up with its child; so many events are written and pairs noted so far.
 pub struct Up {
@@ -83,7 +83,7 @@ fn split_inner(
 // The node with room takes what goes up.
 fn taken(pool: &[u64], log: &mut [u64; 62], k: u64, w: u64, used: u64, up: Up) -> u64
     requires { ⌜ Met (now pool) k × (w ≡ at (now pool) (slot-at k)) × (s.count w < s.entries) × (up .pairs + 4 ≤ p.pairs-most) ⌝ }
-    ensures { λ r. ⌜ Noted (taken-pairs (now (pool .entry)) k used up) (up .pairs) (now (log .entry)) r (now (log .exit)) ⌝ }
+    ensures { λ r. ⌜ Noted (parent-pairs (now (pool .entry)) k used up) (up .pairs) (now (log .entry)) r (now (log .exit)) ⌝ }
 {
     let rank = rank_of(pool, k, w, up.key);
     let free = spot(w);

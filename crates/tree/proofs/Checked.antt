@@ -9,20 +9,21 @@ use lib.Dec.{eqb}
 use lib.ListN.{length}
 use borrow.Author.Tests.{eqb-true, eqb-false}
 use Rattle.words.specs.Tests.{if_then_else_}
+use Rattle.words.specs.Lists.{count-from}
 use Rattle.words.specs.Event.{at}
-use Rattle.node.specs.Lists.{count-from}
+use Rattle.words.proofs.Lists.{length-from}
 use Rattle.node.specs.View.{view, link-at}
-use Rattle.tree.specs.Header.{capacity-of, used-of, root-of, commit-of, form-agrees, counts-agree}
+use Rattle.tree.specs.Header.{used-of, root-of, commit-of, form-agrees, counts-agree}
 use Rattle.tree.specs.Kids.{root-kid, inner-least}
 use Rattle.tree.specs.Path.{levels-above}
 use Rattle.tree.specs.Lists.{occ}
 use Rattle.tree.specs.WellFormed.{Views, AllFit, nums, leaves, Whole, WellFormed}
 use Rattle.tree.specs.Map.{records-of}
-use Rattle.tree.specs.Check.{Seen, Walk, fault, going, onward, ended, zeroed, walk}
+use Rattle.tree.specs.Check.{Seen, Walk, fault, going, onward, ended, start, walk}
 use Rattle.tree.proofs.Lists.{each-of}
 use Rattle.tree.proofs.Form.{counts}
 use Rattle.tree.proofs.Frame.{leaves-in}
-use Rattle.tree.proofs.Occurs.{from-in, length-from, total, total-all, total-each, whole-size}
+use Rattle.tree.proofs.Occurs.{from-in, total, total-all, total-each, whole-size}
 use Rattle.tree.proofs.Marks.{end, marked-none, leaves-linked, leaves-chain}
 use Rattle.tree.proofs.Walked.{Fresh, Went, right, wrong, Tree, verdict}
 
@@ -44,9 +45,6 @@ module _ (m marks : List ℕ) (clean : commit-of m ≡ 0) (form : form-agrees m 
   abbrev ls : List ℕ
   ls = leaves U H (root-kid m)
 
-  abbrev start : Seen
-  start = record { marks = zeroed (capacity-of m) marks; last = 0; nodes = 0; records = 0 }
-
   whole-fresh : Whole U (used-of m) H (root-of m) → Fresh m (λ j. 0) ns
   whole-fresh w j o = let i = w .only j o in (i .0, i .1, omega (arith, w .once j (i .0) (i .1)))
 
@@ -65,7 +63,7 @@ module _ (m marks : List ℕ) (clean : commit-of m ≡ 0) (form : form-agrees m 
           go (yes o) = omega (arith, f i o)
           go (no o) = omega arith
 
-  went-whole : {s : Seen} → AllFit U inner-least H (root-kid m) → Went m start s (λ j. 0) ns ls → at m (link-at (s .last)) ≡ 0
+  went-whole : {s : Seen} → AllFit U inner-least H (root-kid m) → Went m (start m marks) s (λ j. 0) ns ls → at m (link-at (s .last)) ≡ 0
       → s .nodes ≡ used-of m → Whole U (used-of m) H (root-of m)
   went-whole p x z n =
       let n′ : length ns ≡ used-of m = omega (arith, x .nodes-are) in
@@ -77,7 +75,7 @@ module _ (m marks : List ℕ) (clean : commit-of m ≡ 0) (form : form-agrees m 
         only = λ j o. let i = x .fresh j o in (i .0, i .1);
       }
 
-  close : {w : Walk} → Tree m inner-least H (root-kid m) start (λ j. 0) w → Checked m (onward (ended m) w)
+  close : {w : Walk} → Tree m inner-least H (root-kid m) (start m marks) (λ j. 0) w → Checked m (onward (ended m) w)
   close (wrong n) =
       faulty (λ w. n (w .whole .fit) (whole-fresh (w .whole)) (leaves-chain m H (root-kid m) (w .whole .linked) .0))
   close (right {s′ = s} p x) = go (eqb (at m (link-at (s .last))) 0) (eqb (s .nodes) (used-of m)) refl refl
@@ -97,7 +95,7 @@ module _ (m marks : List ℕ) (clean : commit-of m ≡ 0) (form : form-agrees m 
   pub checked : Checked m (walk m marks)
   unfolding walk
   checked =
-      close (verdict m H inner-least 0 (root-kid m) start (λ j. 0) (marked-none m marks (counts m agree .used .1)))
+      close (verdict m H inner-least 0 (root-kid m) (start m marks) (λ j. 0) (marked-none m marks (counts m agree .used .1)))
 
   -- the same by equations
   pub checked-sound : WellFormed m

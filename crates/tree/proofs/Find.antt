@@ -1,6 +1,6 @@
 -- What a list of records holds under a key: in parts, and after a record is put in, taken out or replaced.
 use Prim.Native.Nat.{ℕ, _≤_, _<_}
-use mathlib.Core.Path.{_≡_, refl, _∙_}
+use mathlib.Core.Path.{_≡_, refl, sym, _∙_}
 use mathlib.Core.Logic.{_⊎_, inl, inr}
 use mathlib.Core.List.{List, [], _∷_, _++_}
 use mathlib.Core.Bool.{Bool, true, false, _||_}
@@ -8,10 +8,13 @@ use mathlib.Core.Option.{Option, none, some}
 use native.Mathlib.Omega.{arith}
 use lib.Dec.{ltb, eqb}
 use lib.ListN.{getD, set}
-use borrow.Author.Tests.{eq-eqb, ne-eqb, eqb-true, ltb-true}
+use borrow.Author.Tests.{le-ltb, ne-eqb, eqb-true, ltb-true}
 use Rattle.words.specs.Tests.{if_then_else_}
-use Rattle.node.specs.Lists.{insert, remove, has, below}
+use Rattle.words.proofs.Tests.{differ}
+use Rattle.node.specs.Lists.{insert, remove, has, rising, below}
 use Rattle.node.specs.View.{Record, keys}
+use Rattle.node.proofs.Every.{every-has}
+use Rattle.node.proofs.Ranks.{rising-cons}
 use Rattle.tree.specs.Map.{find}
 use Rattle.tree.proofs.Keys.{Rise, rise-more, rank-here, has-later}
 
@@ -74,16 +77,18 @@ find-absent key (e ∷ rs) h = go (eqb key (e .0)) (find-absent key rs) h
     go true f k = let z : _≡_ {A = ℕ} 0 1 = cc in absurd (omega arith)
     go false f k = f k
 
-pub find-present : {lo hi : ℕ} (key : ℕ) (rs : List Record) → Rise lo (keys rs) hi → has key (keys rs) ≡ true
+pub find-present : (key : ℕ) (rs : List Record) → rising (keys rs) ≡ true → has key (keys rs) ≡ true
     → find key rs ≡ some (getD rs (below key (keys rs)) (0, 0) .1)
-unfolding below find
-find-present key [] g h = unfold has in (let z : _≡_ {A = ℕ} 0 1 = cc in absurd (omega arith))
-find-present {lo} {hi} key (e ∷ rs) (rise-more p q g) h = go (λ l. find-present key rs g (has-later key e rs l h)) (ltb (e .0) key) refl
+unfolding find below has
+find-present key [] r h = absurd (differ (sym h))
+find-present key (e ∷ rs) r h = go (λ g. find-present key rs (rising-cons (e .0) (keys rs) r .1) g) (eqb key (e .0)) refl
   where
-    go : (e .0 < key → find key rs ≡ some (getD rs (below key (keys rs)) (0, 0) .1)) → (t : Bool) → ltb (e .0) key ≡ t
+    go : (has key (keys rs) ≡ true → find key rs ≡ some (getD rs (below key (keys rs)) (0, 0) .1)) → (b : Bool) → eqb key (e .0) ≡ b
         → find key (e ∷ rs) ≡ some (getD (e ∷ rs) (below key (keys (e ∷ rs))) (0, 0) .1)
-    go f true t = let l : e .0 < key = ltb-true (e .0) key t in rw (t, ne-eqb key (e .0) (omega arith)) (f l)
-    go f false t = let i : key ≡ e .0 = rank-here key e rs (rise-more p q g) h t in rw (t, eq-eqb key (e .0) i)
+    go further true t = rw (t, le-ltb (e .0) key (omega (arith, eqb-true key (e .0) t)))
+    go further false t =
+        let g : has key (keys rs) ≡ true = rw t at h in
+        rw (t, every-has (λ x. ltb (e .0) x) key (keys rs) (rising-cons (e .0) (keys rs) r .0) g) (further g)
 
 -- two tests in either order, where the keys differ; and a test that an earlier one has passed
 swap : (q key k v : ℕ) (o r : Option ℕ) → k < key

@@ -1,26 +1,22 @@
 -- The children of a node, one by one: their numbers and covers, and which of them a key goes to.
-use Prim.Native.Nat.{ℕ, zero, suc, _+_, _-_, _≤_, _<_}
+use Prim.Native.Nat.{ℕ, zero, suc, _-_, _≤_, _<_}
 use mathlib.Core.Path.{_≡_, refl, sym, _∙_, ap}
 use mathlib.Core.List.{List, [], _∷_}
-use mathlib.Core.Bool.{Bool, true, false, and-false}
-use native.Mathlib.Nat.{suc-add}
+use mathlib.Core.Bool.{Bool, true, false}
 use native.Mathlib.Omega.{arith}
 use lib.ListN.{length, getD}
-use lib.Dec.{ltb, eqb}
-use mir.Val.{boolByte}
-use borrow.Author.Tests.{ltb-true, ltb-false, lt-ltb, le-ltb, ne-eqb, eqb-true, eqb-false}
+use lib.Dec.{ltb}
+use Rattle.words.specs.Tests.{if_then_else_}
 use Rattle.words.specs.Event.{at}
-use Rattle.words.proofs.Tests.{both}
-use Rattle.node.specs.Lists.{has, below, rising}
+use Rattle.node.specs.Lists.{upto}
 use Rattle.node.specs.Slot.{count, names, entries}
 use Rattle.node.specs.View.{Record, view, keys, entry, slot-at, link-at, key-at, value-at}
 use Rattle.node.specs.Looked.{end-of}
 use Rattle.node.specs.declared.cover.Cover.{Cover}
 use Rattle.node.proofs.Every.{below-at}
 use Rattle.node.proofs.Slots.{length-names}
-use Rattle.node.proofs.Ranks.{rising-cons, has-at-rank}
 use Rattle.node.proofs.Views.{view-length, record-at}
-use Rattle.tree.specs.Kids.{Kid, kids-from, pick-from}
+use Rattle.tree.specs.Kids.{Kid, kid, kids-from, pick-from}
 use Rattle.tree.specs.Descended.{Named, kid-after}
 
 module _ (lo hi : ℕ) (d : Kid) where
@@ -108,36 +104,15 @@ module _ (m : List ℕ) (k w : ℕ) (n : Named m k w) (c : Cover) (j : ℕ) wher
         let later = later-from (end-of c) _ z (view m k .link) (c .lo) (j - 1) rs (there .0) in
         rw before (is ∙ sym (later ∙ ap (λ (r : Record). r .0) (there .1)))
 
--- where the first is above a key, none is below it, and it is not there
-none-below : (key : ℕ) (xs : List ℕ) → rising (key ∷ xs) ≡ true → below key xs + boolByte (has key xs) ≡ 0
-unfolding rising below has
-none-below key [] t = refl
-none-below key (x ∷ xs) t =
-    let p : (ltb key x ≡ true) × (rising (x ∷ xs) ≡ true) = both t in
-    let h : key < x = ltb-true key x (p .0) in
-    let b : ltb x key ≡ false = le-ltb x key (omega arith) in
-    let first : below key (x ∷ xs) ≡ 0 = rw b in
-    let not-there : has key (x ∷ xs) ≡ false = has-at-rank key (x ∷ xs) (p .1) ∙ rw (first, ne-eqb x key (λ e. omega arith), and-false) in
-    rw (b, not-there)
-
--- a key goes to the child that has before it the keys below it, and the key itself if it is there
-pub pick-is : (key hi : ℕ) (d : Kid) (l lo : ℕ) (rs : List Record) → rising (keys rs) ≡ true
-    → pick-from key l lo hi rs ≡ getD (kids-from l lo hi rs) (below key (keys rs) + boolByte (has key (keys rs))) d
-unfolding pick-from below has rising
-pick-is key hi d l lo [] t = refl
-pick-is key hi d l lo (r ∷ rs) t =
-    go (pick-is key hi d (r .1) (r .0) rs (rising-cons (r .0) (keys rs) t .1)) (ltb key (r .0)) refl (eqb key (r .0)) refl
+-- a key goes to the child that has before it the keys which are not above it
+pub pick-is : (key hi : ℕ) (d : Kid) (l lo : ℕ) (rs : List Record)
+    → pick-from key l lo hi rs ≡ getD (kids-from l lo hi rs) (upto key (keys rs)) d
+unfolding pick-from upto
+pick-is key hi d l lo [] = refl
+pick-is key hi d l lo (r ∷ rs) = go (ltb key (r .0)) (pick-is key hi d (r .1) (r .0) rs)
   where
-    go : pick-from key (r .1) (r .0) hi rs
-        ≡ getD (kids-from (r .1) (r .0) hi rs) (below key (keys rs) + boolByte (has key (keys rs))) d
-        → (b : Bool) → ltb key (r .0) ≡ b → (c : Bool) → eqb key (r .0) ≡ c
-        → pick-from key l lo hi (r ∷ rs)
-        ≡ getD (kids-from l lo hi (r ∷ rs)) (below key (keys (r ∷ rs)) + boolByte (has key (keys (r ∷ rs)))) d
-    go further true u c v = let z = none-below key (keys (r ∷ rs)) (rw u t) in rw (u, z)
-    go further false u true v =
-        let same : key ≡ r .0 = eqb-true key (r .0) v in
-        let none : below key (keys rs) + boolByte (has key (keys rs)) ≡ 0 = rw same (none-below (r .0) (keys rs) t) in
-        rw (u, v, le-ltb (r .0) key (omega arith)) (rw none at further)
-    go further false u false v =
-        let less : r .0 < key = omega (arith, ltb-false key (r .0) u, eqb-false key (r .0) v) in
-        rw (u, v, lt-ltb (r .0) key less, suc-add) further
+    go : (b : Bool) → pick-from key (r .1) (r .0) hi rs ≡ getD (kids-from (r .1) (r .0) hi rs) (upto key (keys rs)) d
+        → (if b then kid l lo (r .0) else pick-from key (r .1) (r .0) hi rs)
+        ≡ getD (kids-from l lo hi (r ∷ rs)) (if b then 0 else suc (upto key (keys rs))) d
+    go true further = refl
+    go false further = further

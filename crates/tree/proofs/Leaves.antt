@@ -2,28 +2,25 @@
 use Prim.Native.Nat.{ℕ, zero, suc, _≤_, _<_}
 use mathlib.Core.Path.{_≡_, refl, sym, _∙_, ap}
 use mathlib.Core.List.{List, [], _∷_}
-use mathlib.Core.Bool.{Bool, true, false}
-use mathlib.Core.Option.{none, some}
+use mathlib.Core.Bool.{true}
+use mathlib.Core.Option.{some}
 use native.Mathlib.Omega.{arith}
-use lib.ListN.{length, getD, take, drop, length-map}
-use lib.Dec.{ltb, eqb}
-use borrow.Author.Tests.{le-ltb, eqb-true}
+use lib.ListN.{length, getD, take, drop}
 use Rattle.words.specs.Tests.{within}
 use Rattle.words.specs.Event.{at}
-use Rattle.words.proofs.Tests.{differ}
 use Rattle.node.specs.Lists.{has, below, rising}
 use Rattle.node.specs.Slot.{count, names}
-use Rattle.node.specs.View.{Record, view, keys, good, value-at}
-use Rattle.node.proofs.Every.{every-has}
-use Rattle.node.proofs.Ranks.{rising-cons, found-at, below-length}
+use Rattle.node.specs.View.{view, keys, good, value-at}
+use Rattle.node.proofs.Ranks.{found-at, below-length}
 use Rattle.node.proofs.Slots.{length-names}
-use Rattle.node.proofs.Views.{Good, good-parts, view-names, view-length}
+use Rattle.node.proofs.Views.{Good, good-parts, view-names, keys-many}
 use Rattle.tree.specs.declared.descend.Descent.{Descent}
 use Rattle.tree.specs.Header.{used-of, form-agrees}
 use Rattle.tree.specs.Kids.{Kid, pick, root-kid, leaf-least, inner-least, fits}
 use Rattle.tree.specs.Path.{Way, leaf, parent, way, levels-above, way-to}
 use Rattle.tree.specs.Map.{find}
 use Rattle.tree.specs.Descended.{Named, Descended}
+use Rattle.tree.proofs.Find.{find-present}
 use Rattle.tree.proofs.Path.{Passed, passed, way-to-counts, way-to-down}
 use Rattle.tree.proofs.Kids.{named-at}
 use Rattle.tree.proofs.Ways.{inside}
@@ -79,33 +76,11 @@ at-leaf m key d f w t =
       there-is = w .there-is t;
     }
 
--- what a node of rising keys holds under a key
-pub find-there : (key : ℕ) (z : Record) (rs : List Record) → rising (keys rs) ≡ true → has key (keys rs) ≡ true
-    → find key rs ≡ some (getD rs (below key (keys rs)) z .1)
-unfolding find below has
-find-there key z [] t h = absurd (differ (sym h))
-find-there key z (r ∷ rs) t h = go (λ g. find-there key z rs (rising-cons (r .0) (keys rs) t .1) g) (eqb key (r .0)) refl
-  where
-    go : (has key (keys rs) ≡ true → find key rs ≡ some (getD rs (below key (keys rs)) z .1)) → (b : Bool) → eqb key (r .0) ≡ b
-        → find key (r ∷ rs) ≡ some (getD (r ∷ rs) (below key (keys (r ∷ rs))) z .1)
-    go further true e = rw (e, le-ltb (r .0) key (omega (arith, eqb-true key (r .0) e)))
-    go further false e =
-        let g : has key (keys rs) ≡ true = rw e at h in
-        rw (e, every-has (λ x. ltb (r .0) x) key (keys rs) (rising-cons (r .0) (keys rs) t .0) g) (further g)
-
-pub find-absent : (key : ℕ) (rs : List Record) → has key (keys rs) ≡ false → find key rs ≡ none
-unfolding find has
-find-absent key [] h = refl
-find-absent key (r ∷ rs) h = go (find-absent key rs) (eqb key (r .0)) refl
-  where
-    go : (has key (keys rs) ≡ false → find key rs ≡ none) → (b : Bool) → eqb key (r .0) ≡ b → find key (r ∷ rs) ≡ none
-    go further true e = absurd (differ (rw e at h))
-    go further false e = rw e (further (rw e at h))
-
+-- what stands there under the key
 module _ {m : List ℕ} {key : ℕ} {d : Descent} (a : AtLeaf m key d) where
   keys-count : length (keys (view m (d .leaf) .records)) ≡ count (d .slot)
   keys-count =
-      length-map (view m (d .leaf) .records) (λ (r : Record). r .0) ∙ view-length m (d .leaf) ∙ ap count (sym (a .named .word))
+      keys-many m (d .leaf) ∙ ap count (sym (a .named .word))
 
   pub rank-few : d .rank ≤ count (d .slot)
   rank-few = omega (arith, a .rank-is, keys-count, below-length key (keys (view m (d .leaf) .records)))
@@ -118,5 +93,5 @@ module _ {m : List ℕ} {key : ℕ} {d : Descent} (a : AtLeaf m key d) where
       → find key (view m (d .leaf) .records) ≡ some v
   found-value t e v =
       let rs = view m (d .leaf) .records in
-      find-there key (0, 0) rs (a .rising-keys) (sym (a .there-is) ∙ t)
+      find-present key rs (a .rising-keys) (sym (a .there-is) ∙ t)
       ∙ rw (← a .rank-is, named-at m (d .leaf) (d .slot) (a .named) (d .rank) (rank-there t) e .1, v) refl

@@ -25,3 +25,4 @@ pub mod SplitAfter
 pub mod Marks
 pub mod Walked
 pub mod Checked
+pub mod Visits

@@ -9,6 +9,7 @@ use native.Mathlib.Omega.{arith}
 use lib.ListN.{getD}
 use Rattle.node.specs.Lists.{has, below}
 use Rattle.node.specs.View.{Record, view, keys}
+use Rattle.node.proofs.Views.{good-parts}
 use Rattle.tree.specs.Kids.{Kid, kids-from, leaf-least, below-root-least}
 use Rattle.tree.specs.Lists.{gather, Each}
 use Rattle.tree.specs.WellFormed.{Views, kids-of, AllFit, leaves}
@@ -114,9 +115,7 @@ module _ {m : List ℕ} {key : ℕ} (y : Reached m key) where
       → map-of m key
       ≡ some (getD (view m (y .place .number) .records) (below key (keys (view m (y .place .number) .records))) (0, 0) .1)
   map-present h =
-      let u = view m (y .place .number) in
-      let n = fits-says leaf-least (y .place .from) (y .place .upto) u (y .fit) in
-      map-at ∙ find-present key (u .records) (n .rises) h
+      map-at ∙ find-present key (view m (y .place .number) .records) (good-parts (y .fit) .keys-rise) h
 
   pub map-absent : has key (keys (view m (y .place .number) .records)) ≡ false → map-of m key ≡ none
   map-absent h = map-at ∙ find-absent key (view m (y .place .number) .records) h

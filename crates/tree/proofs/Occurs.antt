@@ -9,7 +9,8 @@ use native.Mathlib.Decide.{decLe}
 use lib.Dec.{eqb}
 use lib.ListN.{length}
 use borrow.Author.Tests.{eqb-true, eqb-false}
-use Rattle.node.specs.Lists.{count-from}
+use Rattle.words.specs.Lists.{count-from}
+use Rattle.words.proofs.Lists.{length-from}
 use Rattle.node.specs.View.{no-end}
 use Rattle.tree.specs.Kids.{kid}
 use Rattle.tree.specs.Lists.{one, occ}
@@ -37,10 +38,6 @@ from-range j i n h = go (decLe i j) (decLe (i + n) j)
     go (yes p) (no q) = (p, omega arith)
     go (yes p) (yes q) = absurd (omega (arith, from-out j i n (inr q)))
     go (no p) q = absurd (omega (arith, from-out j i n (inl (omega arith))))
-
-pub length-from : (i n : ℕ) → length (count-from i n) ≡ n
-length-from i zero = refl
-length-from i (suc n) = omega (arith, length-from (i + 1) n)
 
 -- how often the numbers js occur, together
 abbrev pub total : List ℕ → List ℕ → ℕ
@@ -73,17 +70,18 @@ total-ones : (js l : List ℕ) → ((x : ℕ) → 1 ≤ occ x js → occ x l ≡
 total-ones [] l h = refl
 total-ones (j ∷ js) l h = omega (arith, h j (omega (arith, one-self j)), total-ones js l (λ y k. h y (omega arith)))
 
+-- none twice
+pub total-most : (js l : List ℕ) → ((j : ℕ) → occ j l ≤ 1) → total js l ≤ length js
+total-most [] l h = omega arith
+total-most (j ∷ js) l h = omega (arith, h j, total-most js l h)
+
 -- as many as there can be, none twice: each is there
 pub total-each : (js l : List ℕ) → ((j : ℕ) → occ j l ≤ 1) → length js ≤ total js l → (j : ℕ) → 1 ≤ occ j js → occ j l ≡ 1
 total-each [] l h e j o = absurd (omega arith)
 total-each (i ∷ js) l h e j o = go (total-each js l h (omega (arith, h i)) j) (decLe 1 (one j i))
   where
-    under : (js : List ℕ) → total js l ≤ length js
-    under [] = omega arith
-    under (k ∷ js) = omega (arith, h k, under js)
-
     go : (1 ≤ occ j js → occ j l ≡ 1) → Dec (1 ≤ one j i) → occ j l ≡ 1
-    go f (yes q) = let p : j ≡ i = one-says j i q in rw p (omega (arith, h i, under js))
+    go f (yes q) = let p : j ≡ i = one-says j i q in rw p (omega (arith, h i, total-most js l h))
     go f (no q) = f (omega arith)
 
 -- a whole tree has as many nodes as are used

@@ -5,7 +5,7 @@ use mathlib.Core.List.{List, [], _∷_, _++_, append-assoc, append-nil}
 use mathlib.Core.Bool.{true}
 use native.Mathlib.Omega.{arith}
 use lib.ListN.{length}
-use Rattle.node.specs.Lists.{count-from}
+use Rattle.words.specs.Lists.{count-from}
 use Rattle.node.specs.Slot.{entries}
 use Rattle.node.specs.View.{Record, keys, no-end}
 use Rattle.tree.specs.Kids.{Kid, kid, kids-from, fits, inner-least, below-root-least}

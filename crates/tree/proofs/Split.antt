@@ -8,7 +8,8 @@ use native.Mathlib.Omega.{arith}
 use native.Mathlib.Decide.{decLe}
 use lib.ListN.{length, drop, take-append-drop}
 use lib.Seq.{drop-cons}
-use Rattle.node.specs.Lists.{has, count-from}
+use Rattle.words.specs.Lists.{count-from}
+use Rattle.node.specs.Lists.{has}
 use Rattle.node.specs.Slot.{entries}
 use Rattle.node.specs.View.{Record, keys, no-end}
 use Rattle.tree.specs.Kids.{Kid, kid, fits, leaf-least, below-root-least}

@@ -33,7 +33,7 @@ module _ (m : List ℕ) where
   fresh-right cnt a b f j o =
       let r = f j (omega (arith, occ-append j a b)) in (r .0, r .1, omega (arith, r .2, occ-append j a b))
 
-  fresh-append : (cnt : ℕ → ℕ) (a b : List ℕ) → Fresh cnt a → Fresh (λ j. cnt j + occ j a) b → Fresh cnt (a ++ b)
+  pub fresh-append : (cnt : ℕ → ℕ) (a b : List ℕ) → Fresh cnt a → Fresh (λ j. cnt j + occ j a) b → Fresh cnt (a ++ b)
   fresh-append cnt a b f g j o = go (decLe 1 (occ j b))
     where
       go : Dec (1 ≤ occ j b) → (1 ≤ j) × (j ≤ used-of m) × (cnt j + occ j (a ++ b) ≤ 1)
@@ -103,7 +103,7 @@ module _ (m : List ℕ) where
         may-of m k a (r .0) (r .1) (omega (arith, r .2, one-self k))
 
     -- the node itself, an inner one
-    went-node : may-mark m k (s .marks) ≡ true → Went s (node-seen k s) cnt (k ∷ []) []
+    pub went-node : may-mark m k (s .marks) ≡ true → Went s (node-seen k s) cnt (k ∷ []) []
     went-node t =
         let r = may-says m k a t in
         let marks = marked-more m k (r .0) (r .1) a in

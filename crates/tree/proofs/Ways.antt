@@ -2,27 +2,26 @@
 use Prim.Native.Nat.{ℕ, zero, suc, _+_, _-_, _*_, _≤_, _<_}
 use mathlib.Core.Path.{_≡_, refl, sym, _∙_, ap}
 use mathlib.Core.List.{List, _∷_}
-use mathlib.Core.Bool.{Bool, true, false}
+use mathlib.Core.Bool.{true, false}
 use native.Mathlib.Nat.{sub-zero, sub-self}
 use native.Mathlib.Omega.{arith}
-use lib.ListN.{length, set, take, drop, replicate, length-set, length-map}
+use lib.ListN.{length, set, take, drop, replicate, length-set}
 use lib.Seq.{drop-cons, getD-set-same, drop-set-lt}
 use lib.Dec.{ltb}
 use mir.Val.{boolByte}
 use borrow.Author.Tests.{lt-ltb}
 use Rattle.words.specs.Tests.{within}
-use Rattle.words.specs.Pool as p
 use Rattle.words.specs.Event.{at}
 use Rattle.words.proofs.Tests.{differ, within-says}
-use Rattle.node.specs.Lists.{has, below, rising}
 use Rattle.node.specs.Slot.{count}
-use Rattle.node.specs.View.{Record, view, keys, good, slot-at}
-use Rattle.node.specs.Looked.{Inside, Looked, end-of}
+use Rattle.node.specs.View.{view, keys, good, slot-at}
+use Rattle.node.specs.Looked.{Inside, Looked, Placed, end-of}
 use Rattle.node.specs.declared.cover.Cover.{Cover}
 use Rattle.node.specs.declared.cover.Look.{Look}
+use Rattle.node.specs.declared.cover.Place.{Place}
 use Rattle.node.proofs.Slots.{length-names}
-use Rattle.node.proofs.Ranks.{found-at, below-length}
-use Rattle.node.proofs.Views.{Good, good-parts, view-names, view-length}
+use Rattle.node.proofs.Ranks.{upto-length}
+use Rattle.node.proofs.Views.{Good, good-parts, view-names, keys-many}
 use Rattle.tree.specs.declared.descend.Descent.{Descent}
 use Rattle.tree.specs.Header.{used-of, root-of, capacity-of, counts-agree, form-agrees}
 use Rattle.tree.specs.Kids.{Kid, pick}
@@ -70,14 +69,6 @@ above-next m left node path h l o =
       getD-set-same path left node 0 l,
       drop-set-lt (suc left) path left node (omega arith),
     )
-
--- the keys below a key, and the key itself if it is there, are no more than there are
-before-few : (key : ℕ) (xs : List ℕ) → rising xs ≡ true → (n : ℕ) → length xs ≡ n → below key xs + boolByte (has key xs) ≤ n
-before-few key xs t n e = go (has key xs) refl
-  where
-    go : (b : Bool) → has key xs ≡ b → below key xs + boolByte b ≤ n
-    go true h = omega (arith, found-at key xs t h .0)
-    go false h = omega (arith, below-length key xs)
 
 -- one level of the way
 module _ (m : List ℕ) (key : ℕ) (c : Kid) (up : List ℕ) where
@@ -143,16 +134,16 @@ module _ (m : List ℕ) (key : ℕ) where
           fault-is d f e (o .rest ∙ not-good m key (under node cover) (above m left path) used left (sym (l .good-is) ∙ t))
 
       module _ (t : seen .good ≡ true) where
-        pub leaf-is : left ≡ 0 → {w : ℕ} → w ≡ at m (slot-at node) → (d : Descent) → d ≡ reached node w seen (set path left node)
-            → Descended m key d
-        leaf-is z w d e = rw (e, z) (record {
+        pub leaf-is : left ≡ 0 → {w : ℕ} → w ≡ at m (slot-at node) → {r : Place} → Placed key (view m node) r
+            → (d : Descent) → d ≡ reached node w r (set path left node) → Descended m key d
+        leaf-is z w r d e = rw (e, z) (record {
           way-is = o .rest ∙ good-leaf m key (under node cover) (above m left path) used left z (sym (l .good-is) ∙ t)
               ∙ ap (leaf node) (rw (z, sub-zero, drop-set-lt 1 path 0 node (omega arith)) refl);
           eight-is = λ h. length-set path 0 node ∙ o .eight;
           first-is = λ h. getD-set-same path 0 node 0 (omega (arith, o .eight));
           slot-is = λ h. w;
-          rank-is = λ h. l .rank-is t;
-          there-is = λ h. l .there-is t;
+          rank-is = λ h. r .rank-is;
+          there-is = λ h. r .there-is;
         })
 
         pub good-node : Good (boolByte (ltb 0 left)) (cover .lo) (end-of cover) (view m node)
@@ -167,24 +158,19 @@ module _ (m : List ℕ) (key : ℕ) where
         }
 
         -- there are as many keys before it as the node has, at most
-        pub few-before : {w : ℕ} → w ≡ at m (slot-at node) → seen .rank + boolByte (seen .there) ≤ count w
-        few-before w =
-            let few = length-map (view m node .records) (λ (r : Record). r .0) ∙ view-length m node in
-            rw (w, l .rank-is t, l .there-is t)
-            (before-few key (keys (view m node .records)) (good-node .keys-rise) (count (at m (slot-at node))) few)
+        pub few-before : {w : ℕ} → w ≡ at m (slot-at node) → seen .after ≤ count w
+        few-before w = rw (w, l .after-is t, ← keys-many m node) (upto-length key (keys (view m node .records)))
 
         -- the child that covers the key
-        picked : {j k : ℕ} (c : Cover) → j ≡ seen .rank + boolByte (seen .there) → k ≡ kid-after m node cover j .number
+        picked : {j k : ℕ} (c : Cover) → j ≡ seen .after → k ≡ kid-after m node cover j .number
             → (c .lo ≡ kid-after m node cover j .from) × (end-of c ≡ kid-after m node cover j .upto)
             → pick key (under node cover) (view m node) ≡ under k c
         picked {j} {k} c e n s =
             let u = view m node in
-            let ks = keys (u .records) in
-            let place : j ≡ below key ks + boolByte (has key ks) = rw (e, l .rank-is t, l .there-is t) refl in
-            pick-is key (end-of cover) (under node cover) (u .link) (cover .lo) (u .records) (good-node .keys-rise)
-            ∙ rw (← place, n, s .0, s .1) refl
+            pick-is key (end-of cover) (under node cover) (u .link) (cover .lo) (u .records)
+            ∙ rw (← (e ∙ l .after-is t), n, s .0, s .1) refl
 
-        pub go-down : (left ≡ 0 → ⊥) → {j k : ℕ} (c : Cover) → j ≡ seen .rank + boolByte (seen .there)
+        pub go-down : (left ≡ 0 → ⊥) → {j k : ℕ} (c : Cover) → j ≡ seen .after
             → k ≡ kid-after m node cover j .number → (c .lo ≡ kid-after m node cover j .from) × (end-of c ≡ kid-after m node cover j .upto)
             → On m key k (left - 1) c node (set path left node)
         go-down z c e n s =

@@ -83,11 +83,13 @@ ended m s =
 abbrev pub zeroed : ℕ → List ℕ → List ℕ
 zeroed capacity marks = replicate capacity 0 ++ drop capacity marks
 
+-- where it begins: nothing is seen
+abbrev pub start : List ℕ → List ℕ → Seen
+start m marks = record { marks = zeroed (capacity-of m) marks; last = 0; nodes = 0; records = 0 }
+
 -- the whole walk, from the root; a root out of range is refused before
 unfoldable pub walk : List ℕ → List ℕ → Walk
-walk m marks =
-    let start : Seen = record { marks = zeroed (capacity-of m) marks; last = 0; nodes = 0; records = 0 } in
-    onward (ended m) (node-walk (levels-above m) m inner-least 0 (root-kid m) start)
+walk m marks = onward (ended m) (node-walk (levels-above m) m inner-least 0 (root-kid m) (start m marks))
 
 -- the marks after it
 abbrev pub marks-after : Walk → List ℕ

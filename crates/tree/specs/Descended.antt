@@ -11,7 +11,7 @@ use Rattle.node.specs.Slot.{count, names, entries}
 use Rattle.node.specs.View.{view, keys, slot-at}
 use Rattle.node.specs.Looked.{Inside, end-of}
 use Rattle.node.specs.declared.cover.Cover.{Cover}
-use Rattle.node.specs.declared.cover.Look.{Look}
+use Rattle.node.specs.declared.cover.Place.{Place}
 use Rattle.tree.specs.declared.descend.Descent.{Descent}
 use Rattle.tree.specs.Kids.{Kid, kid, kids}
 use Rattle.tree.specs.Path.{Way, failed, leaf, levels-above, way-to}
@@ -31,15 +31,15 @@ under k c = kid k (c .lo) (end-of c)
 abbrev pub kid-after : List ℕ → ℕ → Cover → ℕ → Kid
 kid-after m k c j = getD (kids (under k c) (view m k)) j (under k c)
 
--- the answer at a leaf that was looked at
-abbrev pub reached : ℕ → ℕ → Look → List ℕ → Descent
-reached k w seen ks = record {
+-- the answer at a leaf where the key has its place
+abbrev pub reached : ℕ → ℕ → Place → List ℕ → Descent
+reached k w at ks = record {
   found = true;
   «at_fault» = 0;
   leaf = k;
   slot = w;
-  rank = seen .rank;
-  there = seen .there;
+  rank = at .rank;
+  there = at .there;
   path = ks;
 }
 

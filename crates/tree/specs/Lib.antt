@@ -7,4 +7,5 @@ pub mod WellFormed
 pub mod Map
 pub mod Reads
 pub mod Check
+pub mod Visits
 pub mod Descended

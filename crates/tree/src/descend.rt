@@ -1,11 +1,12 @@
 // The way down from the root to the leaf of a key, each node on it looked at once: all of refusal 4 but its last case.
 use crate::header::counts_agree;
 use node::Cover;
-use node::Look;
+use node::Place;
 use node::layout::link;
 use node::layout::record_key;
 use node::layout::record_value;
 use node::look::look;
+use node::look::place;
 use node::slot::count;
 use node::slot::name;
 use words::Pool;
@@ -31,7 +32,7 @@ pub struct Descent {
 }
 
 impl Descent {
-    fn fault(node: u64) -> Descent
+    pub fn fault(node: u64) -> Descent
         ensures { λ r. ⌜ (r .found ≡ false) × (r .«at_fault» ≡ node) ⌝ }
     {
         Descent {
@@ -45,16 +46,16 @@ impl Descent {
         }
     }
 
-    fn at_leaf(leaf: u64, slot: u64, seen: Look, path: [u64; 8]) -> Descent
-        ensures { λ r. ⌜ r ≡ reached leaf slot seen path ⌝ }
+    fn at_leaf(leaf: u64, slot: u64, at: Place, path: [u64; 8]) -> Descent
+        ensures { λ r. ⌜ r ≡ reached leaf slot at path ⌝ }
     {
         Descent {
             found: true,
             at_fault: 0,
             leaf,
             slot,
-            rank: seen.rank,
-            there: seen.there,
+            rank: at.rank,
+            there: at.there,
             path,
         }
     }
@@ -146,12 +147,12 @@ pub fn descend(pool: &[u64], key: u64) -> Descent
         }
         path[left as usize] = node;
         if left == 0 {
-            return Descent::at_leaf(node, slot, seen, path);
+            let at = place(pool, node, slot, seen.after, key);
+            return Descent::at_leaf(node, slot, at, path);
         }
-        let after = seen.rank + (seen.there as u64);
         parent = node;
-        node = child(pool, parent, slot, after, cover);
-        cover = child_cover(pool, parent, slot, after, cover);
+        node = child(pool, parent, slot, seen.after, cover);
+        cover = child_cover(pool, parent, slot, seen.after, cover);
         left -= 1;
     }
 }

@@ -9,10 +9,12 @@ use mathlib.Core.List.{List·Memᴰ·not-nil, List·Memᴰ·append-cases, List·
 use mathlib.Core.List.{Memᴰ·cast, Memᴰ·append-left, Memᴰ·append-right, Memᴰ·map, Memᴰ·of-map}
 use lib.ListN.{length}
 use lib.Dec.{T}
+use lib.Ieee.Bits.{is-true}
 use native.Mathlib.Nat.{zero-add, add-zero, suc-inj}
 use native.Mathlib.Omega.{arith}
 use Rattle.words.specs.Event.{Event, at}
 use Rattle.words.specs.Loss.{Cut}
+use Rattle.words.proofs.Tests.{both-hold}
 use Rattle.words.proofs.Values.{values, values-exact}
 
 abbrev before : ℕ → List ℕ → List ℕ
@@ -106,13 +108,9 @@ abbrev pub every : (List ℕ → Bool) → List (List ℕ) → Bool
 every f [] = true
 every f (m ∷ ms) = f m && every f ms
 
-both : (a b : Bool) → T (a && b) → (a ≡ true) × T b
-both true b t = (refl, t)
-both false b t = absurd t
-
 every-in : (f : List ℕ → Bool) {ms : List (List ℕ)} {m : List ℕ} → In m ms → T (every f ms) → f m ≡ true
-every-in f (here {x} {xs} e) t = rw e (both (f x) (every f xs) t .0)
-every-in f (there {x} {xs} h) t = every-in f h (both (f x) (every f xs) t .1)
+every-in f (here {x} {xs} e) t = rw e (is-true (f x) (both-hold (f x) (every f xs) t .0))
+every-in f (there {x} {xs} h) t = every-in f h (both-hold (f x) (every f xs) t .1)
 
 pub every-cut : (f : List ℕ → Bool) (m : List ℕ) (es : List Event) → T (every f (cuts m es)) → {m′ : List ℕ} → Cut m es m′ → f m′ ≡ true
 every-cut f m es t c = every-in f (cuts-all c) t

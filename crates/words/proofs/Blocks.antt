@@ -142,7 +142,7 @@ pub length-stores : (ps : List Pair) → length (stores ps) ≡ length ps
 length-stores [] = refl
 length-stores (p ∷ ps) = ap suc (length-stores ps)
 
-length-flushes : (ls : List ℕ) → length (flushes ls) ≡ length ls
+pub length-flushes : (ls : List ℕ) → length (flushes ls) ≡ length ls
 length-flushes [] = refl
 length-flushes (l ∷ ls) = ap suc (length-flushes ls)
 

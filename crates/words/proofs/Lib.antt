@@ -1,5 +1,7 @@
 -- Laws of words, events and cuts, for the floors above.
 pub mod Tests
+pub mod Turns
+pub mod Lists
 pub mod Joined
 pub mod Written
 pub mod Events

@@ -4,9 +4,9 @@ use mathlib.Core.Path.{_≡_, refl, sym}
 use mathlib.Core.Logic.{_⊎_, inr, ⊎-elim}
 use mathlib.Core.Bool.{Bool, true, false, _&&_}
 use native.Mathlib.Omega.{arith}
-use lib.Dec.{leb, eqb}
+use lib.Dec.{T, leb, eqb}
 use borrow.Author.Tests.{leb-true, le-leb, eqb-true, eqb-false}
-use Rattle.words.specs.Tests.{within}
+use Rattle.words.specs.Tests.{if_then_else_, within}
 
 -- both parts of a joined test pass
 pub both : {a b : Bool} → (a && b) ≡ true → (a ≡ true) × (b ≡ true)
@@ -16,6 +16,10 @@ both {a} {b} e = go a b e
     go true b e = (refl, e)
     go false b e = (e, cc)
 
+pub both-hold : (a b : Bool) → T (a && b) → T a × T b
+both-hold true b t = (tt, t)
+both-hold false b t = absurd t
+
 pub within-says : (low x high : ℕ) → within low x high ≡ true → (low ≤ x) × (x ≤ high)
 within-says low x high h =
     let b : (leb low x ≡ true) × (leb x high ≡ true) = both h in
@@ -23,6 +27,10 @@ within-says low x high h =
 
 pub within-of : (low x high : ℕ) → low ≤ x → x ≤ high → within low x high ≡ true
 within-of low x high l h = rw (le-leb low x l, le-leb x high h)
+
+pub at-most-one : (b : Bool) → (if b then 1 else 0) ≤ 1
+at-most-one true = omega arith
+at-most-one false = omega arith
 
 -- a test does not both pass and fail
 pub differ : true ≡ false → ⊥

@@ -1,5 +1,6 @@
 -- What a reader believes of words, lines, events and cuts: definitions in document 01's words and order.
 pub mod Tests
+pub mod Lists
 pub mod Pool
 pub mod Refusals
 pub mod Event

@@ -1,6 +1,6 @@
 -- `desk::serving::carry_all` meets its contract: what is left of the events, carried out on the pool so far, leaves what all of them
 -- leave.
-use Prim.Native.Nat.{ℕ, suc, _+_, _-_, _≤_, _<_}
+use Prim.Native.Nat.{ℕ, _+_, _-_, _≤_, _<_}
 use mathlib.Core.Path.{_≡_, refl}
 use mathlib.Core.List.{List}
 use native.Mathlib.Omega.{arith}
@@ -9,6 +9,7 @@ use lib.ListN.{length}
 use borrow.Author.Needs.{needs}
 use Rattle.words.specs.Event.{event-at}
 use Rattle.words.specs.Carry.{after, after-all}
+use Rattle.words.proofs.Turns.{turn, over}
 use Rattle.desk.proofs.serving.carry_all.Statement.{statement}
 use Rattle.desk.proofs.serving.carry_all.Tie as tie
 
@@ -24,12 +25,11 @@ one-more : (m k l : List ℕ) (n c : ℕ) (t : List ℕ) → n < c → after-all
     → after-all k l (n + 1 + 1) (c - (n + 1)) ≡ t
 unfolding after-all
 one-more m k l n c t h e is =
-    let left : c - n ≡ suc (c - (n + 1)) = omega arith in
-    rw (is, add-one (n + 1)) (rw left at e)
+    rw (is, add-one (n + 1)) (rw (turn c n h) at e)
 
 none-left : (m l : List ℕ) (n c : ℕ) (t : List ℕ) → n ≤ c → c ≤ n → after-all m l (n + 1) (c - n) ≡ t → m ≡ t
 unfolding after-all
-none-left m l n c t a b e = let left : c - n ≡ 0 = omega arith in rw left at e
+none-left m l n c t a b e = rw (over c n b) at e
 
 loop-holds : tie.Need-loop-holds Inv-loop μ-loop
 loop-holds c = let all : c .before .before .args .events - 0 ≡ c .before .before .args .events = omega arith in (omega arith, refl, rw all)

@@ -1,3 +1,4 @@
+-- `node::byte_at` meets its contract.
 use mathlib.Core.Path.{_∙_, sym}
 use lib.Bits.{and-mask}
 use Rattle.node.proofs.Digits.{bytes-at}

@@ -1,3 +1,4 @@
+-- `node::insert_byte` meets its contract.
 use Prim.Native.Nat.{_*_}
 use native.Mathlib.Nat.{mod-lt}
 use native.Mathlib.Omega.{arith}

@@ -1,3 +1,4 @@
+-- `node::low_bytes` meets its contract.
 use Prim.Native.Nat.{_*_}
 use native.Mathlib.Omega.{arith}
 use lib.Pow.{pow-pos}

@@ -1,3 +1,4 @@
+-- `node::remove_byte` meets its contract.
 use Prim.Native.Nat.{_*_}
 use native.Mathlib.Nat.{mod-lt}
 use native.Mathlib.Omega.{arith}

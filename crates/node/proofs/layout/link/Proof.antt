@@ -1,3 +1,4 @@
+-- `node::link` meets its contract.
 use borrow.Author.Needs.{needs}
 use Rattle.node.proofs.layout.link.Statement.{statement}
 use Rattle.node.proofs.layout.link.Tie as tie

@@ -1,3 +1,4 @@
+-- `node::record_key` meets its contract.
 use borrow.Author.Needs.{needs}
 use Rattle.node.proofs.layout.record_key.Statement.{statement}
 use Rattle.node.proofs.layout.record_key.Tie as tie

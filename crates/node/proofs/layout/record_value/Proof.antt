@@ -1,3 +1,4 @@
+-- `node::record_value` meets its contract.
 use borrow.Author.Needs.{needs}
 use Rattle.node.proofs.layout.record_value.Statement.{statement}
 use Rattle.node.proofs.layout.record_value.Tie as tie

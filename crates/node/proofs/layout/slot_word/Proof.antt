@@ -1,3 +1,4 @@
+-- `node::slot_word` meets its contract.
 use borrow.Author.Needs.{needs}
 use Rattle.node.proofs.layout.slot_word.Statement.{statement}
 use Rattle.node.proofs.layout.slot_word.Tie as tie

@@ -1,3 +1,4 @@
+-- `node::ends` meets its contract.
 use mathlib.Core.Path.{sym}
 use borrow.Author.Tests.{eq-eqb, ne-eqb, lt-ltb}
 use Rattle.node.proofs.look.ends.Statement.{statement}

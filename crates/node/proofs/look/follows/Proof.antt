@@ -1,3 +1,4 @@
+-- `node::follows` meets its contract.
 use borrow.Author.Tests.{eq-eqb, ne-eqb}
 use Rattle.node.proofs.look.follows.Statement.{statement}
 use Rattle.node.proofs.look.follows.Tie as tie

@@ -1,3 +1,4 @@
+-- `node::with_mark` meets its contract.
 use Rattle.node.proofs.Masks.{marked-with}
 use borrow.Author.Needs.{needs}
 use Rattle.node.proofs.marks.with_mark.Statement.{statement}

@@ -1,3 +1,4 @@
+-- `node::count` meets its contract.
 use lib.Bits.{and-mask}
 use Rattle.node.proofs.slot.count.Statement.{statement}
 use Rattle.node.proofs.slot.count.Tie as tie

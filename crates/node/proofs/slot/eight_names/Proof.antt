@@ -1,3 +1,4 @@
+-- `node::eight_names` meets its contract.
 use mathlib.Core.Path.{sym}
 use Rattle.node.proofs.Slots.{names-at}
 use borrow.Author.Needs.{needs}

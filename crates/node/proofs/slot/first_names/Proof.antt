@@ -1,3 +1,4 @@
+-- `node::first_names` meets its contract.
 use mathlib.Core.Path.{_∙_, ap}
 use Rattle.node.specs.Slot.{slot}
 use Rattle.node.proofs.Slots.{names-take}

@@ -1,3 +1,4 @@
+-- `node::name` meets its contract.
 use mathlib.Core.Path.{_∙_}
 use Rattle.node.proofs.Slots.{name-at}
 use borrow.Author.Needs.{needs}

@@ -1,3 +1,4 @@
+-- `node::slot_of` meets its contract.
 use Rattle.node.proofs.Slots.{slot-joined}
 use borrow.Author.Needs.{needs}
 use Rattle.node.proofs.slot.slot_of.Statement.{statement}

@@ -1,3 +1,4 @@
+-- `node::spot` meets its contract.
 use mathlib.Core.Path.{_∙_, ap}
 use Rattle.node.specs.Slot.{spot}
 use Rattle.node.proofs.Slots.{names-at}

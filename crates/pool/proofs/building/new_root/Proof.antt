@@ -1,7 +1,7 @@
 -- `pool::new_root` meets its contract: three calls, one after the other.
 use borrow.Author.Needs.{needs}
 use Rattle.words.proofs.Written.{wrote-append}
-use Rattle.pool.proofs.Runs.{stored-node}
+use Rattle.change.proofs.Lines.{stored-node}
 use Rattle.pool.proofs.building.new_root.Statement.{statement}
 use Rattle.pool.proofs.building.new_root.Tie as tie
 

@@ -1,43 +1,33 @@
 -- `pool::delete` meets its contract: each return goes by the tests before it.
 use borrow.Author.Needs.{needs}
-use mathlib.Core.Path.{_≡_, _∙_, sym}
-use mathlib.Core.Bool.{true}
-use native.Mathlib.Omega.{arith}
+use mathlib.Core.Path.{_≡_, _∙_}
 use lib.ListN.{length, take, drop}
 use borrow.Author.Tests.{not-true, not-false}
-use Rattle.tree.specs.Header.{form-agrees}
 use Rattle.tree.specs.Path.{levels-above}
-use Rattle.tree.proofs.Form.{form}
-use Rattle.tree.proofs.Leaves.{AtLeaf, at-leaf, rank-there}
+use Rattle.tree.proofs.Leaves.{AtLeaf, rank-there}
 use Rattle.change.specs.Delete.{delete-at, delete}
 use Rattle.pool.proofs.Planning.{quiet-answer, planned-answer}
-use Rattle.pool.proofs.Gates.{call-short, call-no-pool, call-unfinished, call-damaged, call-at}
+use Rattle.pool.proofs.Gates.{found-leaf, call-short, call-shut, call-at}
 use Rattle.pool.proofs.Deletes.{delete-absent, delete-removed}
 use Rattle.pool.proofs.deleting.delete.Statement.{statement}
 use Rattle.pool.proofs.deleting.delete.Tie as tie
 
-is-pool : (c : tie.Else2) → form-agrees (c .before .before .before .before .before .args .pool .now) ≡ true
-is-pool c = sym (c .before .form-agrees .ensures) ∙ not-false _ (c .if2 .left)
-
-leaf-of : (c : tie.Else4)
-    → let d = c .before .before in
-    let s = d .before .before .before .before .before .before .before .before in
-    AtLeaf (s .args .pool .now) (s .args .key) (d .descend .result)
-leaf-of c =
-    let d = c .before .before in
-    at-leaf _ _ _ (is-pool (d .before .before .before)) (d .descend .ensures) (not-false _ (c .if4 .left))
+leaf-of : (c : tie.Else2)
+    → let g = c .before .before .before in
+    let a = g .before .before .before .before .args in
+    AtLeaf (a .pool .now) (a .key) (g .pass-gate .result .way)
+leaf-of c = found-leaf (c .before .before .before .pass-gate .ensures) (not-false _ (c .if2 .left))
 
 -- what is done at the leaf is the call
-reached : (c : tie.Else4)
-    → let d = c .before .before in
-    let a = d .before .before .before .before .before .before .before .before .args in
-    let way = d .descend .result in
+reached : (c : tie.Else2)
+    → let g = c .before .before .before in
+    let a = g .before .before .before .before .args in
+    let way = g .pass-gate .result .way in
     delete (length (a .list .now)) (a .pool .now) (a .key)
     ≡ delete-at (a .pool .now) (a .key) (way .leaf) (take (levels-above (a .pool .now)) (drop 1 (way .path)))
 reached c =
-    let d = c .before .before in
-    let p = d .before .before .before in
-    call-at _ _ _ _ (p .before .before .if1 .left) (is-pool p) (d .before .if3 .left) _ (leaf-of c)
+    let g = c .before .before .before in
+    call-at _ _ _ _ (g .before .if1 .left) (g .pass-gate .ensures) (not-false _ (c .if2 .left))
 
 quiet-requires : tie.Need-quiet-requires
 quiet-requires c κs = search needs
@@ -45,57 +35,30 @@ quiet-requires c κs = search needs
 returns : tie.Need-returns
 returns c = quiet-answer _ _ _ (c .quiet .ensures) (call-short _ _ _ _ (c .before .if1 .taken))
 
-form-agrees-requires : tie.Need-form-agrees-requires
-form-agrees-requires c κs = search needs
+pass-gate-requires : tie.Need-pass-gate-requires
+pass-gate-requires c κs = search needs
 
 quiet-requires-2 : tie.Need-quiet-requires-2
 quiet-requires-2 c κs = search needs
 
 returns-2 : tie.Need-returns-2
 returns-2 c =
-    let g = c .before .before in
-    let none = sym (g .form-agrees .ensures) ∙ not-true _ (c .before .if2 .taken) in
-    quiet-answer _ _ _ (c .quiet2 .ensures) (call-no-pool _ _ _ _ (g .before .if1 .left) none)
-
-mul-if3 : tie.Need-mul-if3
-mul-if3 c = search needs
-
-shared-slice-read-if3 : tie.Need-shared-slice-read-if3
-shared-slice-read-if3 c = let h = form _ (is-pool (c .before)) .least in omega arith
+    let t = c .before in
+    let g = t .before .before .before in
+    quiet-answer _ _ _ (c .quiet2 .ensures)
+    (call-shut _ _ _ _ (g .before .if1 .left) (g .pass-gate .ensures) (not-true _ (t .if2 .taken)))
 
 quiet-requires-3 : tie.Need-quiet-requires-3
 quiet-requires-3 c κs = search needs
 
 returns-3 : tie.Need-returns-3
 returns-3 c =
-    let g = c .before .before .before in
-    quiet-answer _ _ _ (c .quiet3 .ensures) (call-unfinished _ _ _ _ (g .before .before .if1 .left) (is-pool g) (c .before .if3 .taken))
-
-descend-requires : tie.Need-descend-requires
-descend-requires c κs = is-pool (c .before .before)
-
-quiet-requires-4 : tie.Need-quiet-requires-4
-quiet-requires-4 c κs = search needs
-
-returns-4 : tie.Need-returns-4
-returns-4 c =
-    let d = c .before .before .before in
-    let g = d .before .before .before in
-    quiet-answer _ _ _ (c .quiet4 .ensures)
-    (call-damaged _ _ _ _ (g .before .before .if1 .left) (is-pool g) (d .before .if3 .left) _ (d .descend .ensures)
-    (not-true _ (c .before .if4 .taken)))
-
-quiet-requires-5 : tie.Need-quiet-requires-5
-quiet-requires-5 c κs = search needs
-
-returns-5 : tie.Need-returns-5
-returns-5 c =
-    let l = c .before .before .before in
-    quiet-answer _ _ _ (c .quiet5 .ensures) (reached l ∙ delete-absent (leaf-of l) _ (not-true _ (c .before .if5 .taken)))
+    let t = c .before in
+    let l = t .before .before in
+    quiet-answer _ _ _ (c .quiet3 .ensures) (reached l ∙ delete-absent (leaf-of l) _ (not-true _ (t .if3 .taken)))
 
 without-name-requires : tie.Need-without-name-requires
-without-name-requires c κs =
-    (rank-there (leaf-of (c .before .before)) (not-false _ (c .if5 .left)), leaf-of (c .before .before) .named .few)
+without-name-requires c κs = let a = leaf-of (c .before .before) in (rank-there a (not-false _ (c .if3 .left)), a .named .few)
 
 node-at-requires : tie.Need-node-at-requires
 node-at-requires c κs = leaf-of (c .before .before .before .before) .named .inside .most
@@ -106,13 +69,13 @@ write-once-requires c κs = let h = leaf-of (c .before .before .before .before .
 same-length : tie.Need-same-length
 same-length c = search needs
 
-returns-6 : tie.Need-returns-6
-returns-6 c =
+returns-4 : tie.Need-returns-4
+returns-4 c =
     let w = c .before .before in
     let n = w .before in
     let s = n .before .before in
     let l = s .before .before .before in
-    let e = delete-removed (leaf-of l) _ (not-false _ (s .before .if5 .left)) (n .node-at .ensures) (s .without-name .ensures) in
+    let e = delete-removed (leaf-of l) _ (not-false _ (s .before .if3 .left)) (n .node-at .ensures) (s .without-name .ensures) in
     planned-answer _ _ _ (reached l ∙ e) (w .write-once .ensures)
 
 pub delete-spec : {M : Type 1} → statement M
@@ -121,20 +84,13 @@ delete-spec =
     (tie.spec
     quiet-requires
     returns
-    form-agrees-requires
+    pass-gate-requires
     quiet-requires-2
     returns-2
-    mul-if3
-    shared-slice-read-if3
     quiet-requires-3
     returns-3
-    descend-requires
-    quiet-requires-4
-    returns-4
-    quiet-requires-5
-    returns-5
     without-name-requires
     node-at-requires
     write-once-requires
     same-length
-    returns-6)
+    returns-4)

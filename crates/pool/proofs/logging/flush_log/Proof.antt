@@ -5,9 +5,9 @@ use native.Mathlib.Nat.{sub-zero}
 use native.Mathlib.Omega.{arith}
 use lib.ListN.{length}
 use borrow.Author.Needs.{needs}
+use Rattle.words.specs.Lists.{count-from}
 use Rattle.words.specs.Pool.{line, log-at}
 use Rattle.words.specs.Blocks.{flushes}
-use Rattle.node.specs.Lists.{count-from}
 use Rattle.pool.proofs.Loops.{Left, left-all, left-on, left-none}
 use Rattle.pool.proofs.Logs.{flush-turn, flush-end}
 use Rattle.pool.proofs.logging.flush_log.Statement.{statement}

@@ -10,7 +10,7 @@ use Rattle.change.specs.declared.Recovery.the-variants.{Recovered}
 use Rattle.change.specs.Recover.{log-agrees}
 use Rattle.pool.proofs.Planning.{quietly, planned}
 use Rattle.pool.proofs.Recovers.{recover-short, recover-no-pool, recover-clean, recover-bad-log, recover-done}
-use Rattle.pool.proofs.Recovers.{replayed-few, finished}
+use Rattle.pool.proofs.Recovers.{log-fits, log-near}
 use Rattle.pool.proofs.recovering.recover.Statement.{statement}
 use Rattle.pool.proofs.recovering.recover.Tie as tie
 
@@ -52,23 +52,12 @@ returns-4 c =
     let bad = sym (c .before .log-agrees .ensures) ∙ not-true _ (c .if4 .taken) in
     quietly _ _ _ (recover-bad-log _ _ (g .before .before .if1 .left) (is-pool g) (n .if3 .left) bad)
 
-replay-log-requires : tie.Need-replay-log-requires
-replay-log-requires c κs =
+finish-log-requires : tie.Need-finish-log-requires
+finish-log-requires c κs =
     let t = c .before in
-    (is-pool (t .before .before .before .before), log-ok t, omega arith)
-
-write-fence-requires : tie.Need-write-fence-requires
-write-fence-requires c κs =
-    let r = c .before .before .before in
-    let h = replayed-few _ (log-ok (r .before .before)) (r .replay-log .ensures) in
-    (omega arith, omega arith)
-
-write-once-requires : tie.Need-write-once-requires
-write-once-requires c κs =
-    let f = c .before .before .before in
-    let r = f .before .before .before .before in
-    let h = replayed-few _ (log-ok (r .before .before)) (r .replay-log .ensures) in
-    (omega (arith, f .write-fence .ensures .next), omega arith, omega arith)
+    let f = is-pool (t .before .before .before .before) in
+    let h = log-fits _ f (log-ok t) in
+    ((h .0, omega arith, omega arith), (omega arith, h .1, log-near _ f (log-ok t)))
 
 same-length : tie.Need-same-length
 same-length c = search needs
@@ -76,14 +65,11 @@ same-length c = search needs
 returns-5 : tie.Need-returns-5
 returns-5 c =
     let o = c .before .before in
-    let f = o .before .before .before .before in
-    let r = f .before .before .before .before in
-    let t = r .before .before in
+    let t = o .before .before in
     let n = t .before .before in
     let g = n .before .before in
     let e = recover-done _ _ (g .before .before .if1 .left) (is-pool g) (n .if3 .left) (log-ok t) in
-    planned _ (Recovered (commit-of (g .before .before .before .before .before .args .pool .now))) _ e
-    (finished _ (r .replay-log .ensures) (f .write-fence .ensures) (o .write-once .ensures))
+    planned _ (Recovered (commit-of (g .before .before .before .before .before .args .pool .now))) _ e (o .finish-log .ensures)
 
 pub recover-spec : {M : Type 1} → statement M
 recover-spec =
@@ -97,8 +83,6 @@ recover-spec =
     returns-3
     log-agrees-requires
     returns-4
-    replay-log-requires
-    write-fence-requires
-    write-once-requires
+    finish-log-requires
     same-length
     returns-5)

@@ -2,19 +2,20 @@
 use borrow.Author.Needs.{needs}
 use mathlib.Core.Path.{_≡_, _∙_, sym, refl}
 use mathlib.Core.Bool.{true}
-use Prim.Native.Nat.{_+_, _≤_}
+use Prim.Native.Nat.{_≤_}
 use native.Mathlib.Omega.{arith}
-use mir.Val.{boolByte}
 use borrow.Author.Tests.{not-true, not-false}
 use Rattle.words.specs.Tests.{within}
 use Rattle.words.specs.Event.{at}
 use Rattle.node.specs.Slot.{count}
 use Rattle.node.specs.View.{slot-at}
 use Rattle.node.specs.Looked.{Inside}
+use Rattle.node.proofs.Views.{good-sound}
 use Rattle.tree.specs.Header.{used-of, counts-agree}
 use Rattle.tree.specs.Descended.{Named}
 use Rattle.tree.proofs.Form.{form, counts}
-use Rattle.tree.proofs.Ways.{inside, On, bad-header, at-root, bad-number, bad-node, leaf-is, named, few-before, go-down}
+use Rattle.tree.proofs.Ways.{inside, On, bad-header, at-root, bad-number, bad-node, leaf-is, good-node, named}
+use Rattle.tree.proofs.Ways.{few-before, go-down}
 use Rattle.tree.proofs.descend.descend.Statement.{statement}
 use Rattle.tree.proofs.descend.descend.Tie as tie
 
@@ -48,16 +49,16 @@ slot-read : (c : tie.After-shared-slice-known5 Inv-loop μ-loop)
 slot-read c = rw (c .before .node-at .ensures)
 
 -- the node is good: it has a child for the key
-child-ok : (c : tie.After-struct-known3 Inv-loop μ-loop)
-    → let a = c .before .before .before .before .before in
+child-ok : (c : tie.Else4 Inv-loop μ-loop)
+    → let a = c .before .before .before in
     let l = a .before .before .before .before .before in
     let m = l .before .before .before .before .before .before .before .args .pool .now in
     let w = at m (a .before .before .node-at .result) in
-    Named m (l .loop .node) w × (a .look .result .rank + boolByte (a .look .result .there) ≤ count w)
+    Named m (l .loop .node) w × (a .look .result .after ≤ count w)
 child-ok c =
-    let a = c .before .before .before .before .before in
+    let a = c .before .before .before in
     let n = a .before .before .before in
-    let good = not-false _ (c .before .before .before .if3 .left) in
+    let good = not-false _ (c .before .if3 .left) in
     let o = n .before .before .loop .inv in (
       named _ _ o (used-ok n) (a .look .ensures) good (lies-inside n) (slot-read (a .before)),
       few-before _ _ o (used-ok n) (a .look .ensures) good (slot-read (a .before)),
@@ -141,22 +142,30 @@ mul-path c = search needs
 array-write-path : tie.Need-array-write-path Inv-loop μ-loop
 array-write-path c = search needs
 
+place-requires : tie.Need-place-requires Inv-loop μ-loop
+place-requires c κs =
+    let l = c .before .before .before in
+    let n = l .before .before .before in
+    let good = not-false _ (c .before .if3 .left) in (
+      (
+        lies-inside n,
+        slot-read (l .before),
+        good-sound _ (good-node _ _ (n .before .before .loop .inv) (used-ok n) (l .look .ensures) good),
+      ),
+      l .look .ensures .after-is good,
+    )
+
 at-leaf-requires : tie.Need-at-leaf-requires Inv-loop μ-loop
 at-leaf-requires c κs = search needs
 
 returns-4 : tie.Need-returns-4 Inv-loop μ-loop
 returns-4 c =
-    let l = c .before .before .before .before in
+    let t = c .before .before in
+    let l = t .before .before .before in
     let n = l .before .before .before in
-    let good = not-false _ (c .before .before .if3 .left) in
-    leaf-is _ _ (n .before .before .loop .inv) (used-ok n) (l .look .ensures) good (c .before .if4 .taken)
-    (slot-read (l .before)) _ (c .at-leaf .ensures)
-
-cast-after : tie.Need-cast-after Inv-loop μ-loop
-cast-after c = search needs
-
-add-after : tie.Need-add-after Inv-loop μ-loop
-add-after c = let h = child-ok c in let f = h .0 .few in record { fits = omega arith }
+    let good = not-false _ (t .before .if3 .left) in
+    leaf-is _ _ (n .before .before .loop .inv) (used-ok n) (l .look .ensures) good (t .if4 .taken)
+    (slot-read (l .before)) (c .before .place .ensures) _ (c .at-leaf .ensures)
 
 child-requires : tie.Need-child-requires Inv-loop μ-loop
 child-requires c κs = child-ok c
@@ -172,11 +181,12 @@ loop-less c = search needs
 
 loop-again : tie.Need-loop-again Inv-loop μ-loop
 loop-again c =
-    let l = c .before .before .before .before .before .before .before in
+    let e = c .before .before in
+    let l = e .before .before .before in
     let n = l .before .before .before in
-    let good = not-false _ (c .before .before .before .before .before .if3 .left) in
+    let good = not-false _ (e .before .if3 .left) in
     go-down _ _ (n .before .before .loop .inv) (used-ok n) (l .look .ensures) good
-    (c .before .before .before .before .if4 .left) _ refl (c .before .child .ensures) (c .child-cover .ensures)
+    (e .if4 .left) _ refl (c .before .child .ensures) (c .child-cover .ensures)
 
 pub descend-spec : {M : Type 1} → statement M
 descend-spec =
@@ -207,10 +217,9 @@ descend-spec =
     returns-3
     mul-path
     array-write-path
+    place-requires
     at-leaf-requires
     returns-4
-    cast-after
-    add-after
     child-requires
     child-cover-requires
     sub-left-2
