@@ -1,0 +1,23 @@
+-- `exports::calls::ombykape_check` meets its contract.
+use mathlib.Core.Path.{_∙_, ap}
+use Rattle.exports.specs.Replies.{verdict}
+use borrow.Author.Needs.{needs}
+use Rattle.exports.proofs.calls.ombykape_check.Statement.{statement}
+use Rattle.exports.proofs.calls.ombykape_check.Tie as tie
+
+check-requires : tie.Need-check-requires
+check-requires c κs = search needs
+
+verdict-requires : tie.Need-verdict-requires
+verdict-requires c κs = search needs
+
+same-length : tie.Need-same-length
+same-length c = search needs
+
+returns : tie.Need-returns
+returns c =
+    let call = c .before .before .before .check .ensures in
+    (c .verdict .ensures ∙ ap verdict (call .0), call .1)
+
+pub ombykape-check-spec : {M : Type 1} → statement M
+ombykape-check-spec = tie.close (tie.spec check-requires verdict-requires same-length returns)
