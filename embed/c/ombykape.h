@@ -74,7 +74,7 @@ enum ombykape_refusal {
 
 typedef struct {
     uint64_t kind;   /* an ombykape_kind */
-    uint64_t events; /* of a call that plans: the events that the list holds, from its start */
+    uint64_t events; /* of a call that plans: the events that the list holds, from its start; of carry_out 1 */
     uint64_t value;  /* the value found, the pairs replayed, or the number of the refusal */
 } ombykape_reply;
 

@@ -140,6 +140,7 @@ fn turned(reply: TurnReply) -> Result<Turn, Refusal> {
     })
 }
 
+#[inline]
 fn planned(call: &str, reply: Reply) -> Result<Answer, Refusal> {
     let outcome = outcome(call, reply.kind, reply.value)?;
     Ok(Answer {

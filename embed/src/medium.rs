@@ -53,9 +53,10 @@ const EVENT_WORDS: usize = 2;
 /// 3, or with its word or its line's first word outside `words`. Those before it have then been carried out.
 #[inline]
 pub fn carry_list(words: &mut [u64], list: &[u64], events: u64, medium: &mut impl Medium) -> Result<(), Refusal> {
-    let listed = events.min((list.len() / EVENT_WORDS) as u64);
-    for event in list.chunks_exact(EVENT_WORDS).take(listed as usize) {
-        carry(words, event[0], event[1], medium)?;
+    let (list, _) = list.as_chunks::<EVENT_WORDS>();
+    let listed = events.min(list.len() as u64);
+    for &[first, value] in &list[..listed as usize] {
+        carry(words, first, value, medium)?;
     }
     if listed < events {
         return Err(Refusal::NoEvent);
