@@ -57,3 +57,10 @@ looked-some n last k = go (may-turn n last)
     go : (b : Bool) → k < (if b then n else 0) → b ≡ true
     go true h = refl
     go false h = absurd (omega arith)
+
+-- a desk that is looked at after k others is one of a list of desks
+pub looked-bounds : (n last k : ℕ) → k < (if may-turn n last then n else 0) → (n ≤ desks-most) × (last ≤ n) × (k < n)
+looked-bounds n last k h =
+    let t = looked-some n last k h in
+    let b = may-turn-true n last t in
+    (b .1, b .2, rw t at h)

@@ -2,6 +2,7 @@
 use crate::desk::Desk;
 ghost use mathlib.Core.Path.{_≡_};
 ghost use Prim.Native.Nat.{_≤_, _<_};
+ghost use lib.Dec.{ltb};
 ghost use Rattle.words.specs.Event.{at};
 ghost use Rattle.words.specs.Tests.{if_then_else_};
 ghost use Rattle.desk.specs.Desk.{desks-most, may-turn, round};
@@ -27,7 +28,7 @@ pub fn looked_at(desks: usize, last: u64) -> usize
 }
 
 // The member looked at after k others.
-pub fn member_after(desks: usize, last: u64, k: usize) -> usize
+fn member_after(desks: usize, last: u64, k: usize) -> usize
     requires { ⌜ (desks ≤ desks-most) × (last ≤ desks) × (k < desks) ⌝ }
     ensures { λ r. ⌜ r ≡ at (round desks last) k ⌝ }
 {
@@ -36,6 +37,16 @@ pub fn member_after(desks: usize, last: u64, k: usize) -> usize
         return last as usize + k + 1;
     }
     k - rest + 1
+}
+
+// The same for any numbers: 0 where no desk is looked at after k others.
+pub fn looked_member(desks: usize, last: u64, k: usize) -> usize
+    ensures { λ r. ⌜ r ≡ (if ltb k (if may-turn desks last then desks else 0) then at (round desks last) k else 0) ⌝ }
+{
+    if looked_at(desks, last) <= k {
+        return 0;
+    }
+    member_after(desks, last, k)
 }
 
 // One desk more is looked at.

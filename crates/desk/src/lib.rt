@@ -14,7 +14,7 @@ pub use asking::Asked;
 pub use asking::ask;
 pub use choosing::Chosen;
 pub use choosing::looked_at;
-pub use choosing::member_after;
+pub use choosing::looked_member;
 pub use choosing::note;
 pub use desk::Desk;
 pub use serving::carry_all;

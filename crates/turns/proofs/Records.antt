@@ -5,6 +5,8 @@ use mathlib.Core.Logic.{_⊎_, inl, inr}
 use mathlib.Core.List.{List, [], _∷_}
 use mathlib.Core.Bool.{Bool, true, false}
 use native.Mathlib.Omega.{arith}
+use borrow.Author.Tests.{lt-ltb}
+use lib.Dec.{ltb}
 use lib.ListN.{length, getD, set, drop, length-map}
 use Rattle.words.specs.Event.{at}
 use Rattle.words.specs.Tests.{if_then_else_}
@@ -21,7 +23,7 @@ use Rattle.desk.specs.Desk as d
 use Rattle.desk.specs.Desk.{desks-most, held, with-desk, may-submit, may-turn, round, choose, accepts}
 use Rattle.desk.specs.Turn.{submit-answer, submit-desks, serve-turn, turn, turn-desks}
 use Rattle.desk.specs.Parts.{noted, chosen}
-use Rattle.desk.proofs.Bounds.{may-turn-true, submit-may, looked-some}
+use Rattle.desk.proofs.Bounds.{may-turn-true, submit-may, looked-bounds}
 use Rattle.desk.proofs.Submits.{place, no-place, some-place}
 use Rattle.desk.proofs.Choose.{Choice, nearest}
 use Rattle.desk.proofs.Choose as choice
@@ -128,15 +130,12 @@ module _ (n last k most : ℕ) (e : most ≡ (if may-turn n last then n else 0))
   pub below : k < (if may-turn n last then n else 0)
   below = rw e at h
 
-  pub asks : (n ≤ desks-most) × (last ≤ n) × (k < n)
-  asks =
-      let may = looked-some n last k below in
-      let a = may-turn-true n last may in
-      (a .1, a .2, rw may at below)
+  pub met : (j : ℕ) → j ≡ (if ltb k (if may-turn n last then n else 0) then at (round n last) k else 0) → j ≡ at (round n last) k
+  met j f = f ∙ rw (lt-ltb k (if may-turn n last then n else 0) below)
 
   pub in-desks : (j : ℕ) → j ≡ at (round n last) k → (1 ≤ j) × (j - 1 < n) × (n ≤ desks-most)
   in-desks j f =
-      let a = asks in
+      let a = looked-bounds n last k below in
       let b = is-member n last k j (a .1) (a .2) f in
       (b .0, omega arith, a .0)
 

@@ -9,7 +9,7 @@ use desk::Chosen;
 use desk::Desk;
 use desk::Submitted;
 use desk::looked_at;
-use desk::member_after;
+use desk::looked_member;
 use desk::note;
 use desk::seat;
 use desk::serve_chosen;
@@ -83,7 +83,7 @@ fn choose(desks: &[DeskRecord], last: u64) -> Chosen
     };
     let mut k = 0;
     while k < most {
-        let j = member_after(n, last, k);
+        let j = looked_member(n, last, k);
         c = note(c, j, desk_of(desks[j - 1]));
         k += 1;
     }

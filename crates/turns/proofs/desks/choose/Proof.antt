@@ -1,10 +1,12 @@
 -- `turns::desks::choose` meets its contract: looking at the desks that are left gives the chosen one.
 use Prim.Native.Nat.{_≤_, _<_, _-_}
+use mathlib.Core.Path.{_≡_}
 use native.Mathlib.Omega.{arith}
 use lib.ListN.{length}
 use borrow.Author.Needs.{needs}
-use Rattle.desk.specs.Desk.{desks-most}
-use Rattle.turns.proofs.Records.{Chooses, begins, one-more, at-end, below, asks, in-desks}
+use Rattle.words.specs.Event.{at}
+use Rattle.desk.specs.Desk.{desks-most, round}
+use Rattle.turns.proofs.Records.{Chooses, begins, one-more, at-end, below, met, in-desks}
 use Rattle.turns.proofs.desks.choose.Statement.{statement}
 use Rattle.turns.proofs.desks.choose.Tie as tie
 
@@ -16,15 +18,24 @@ abbrev μ-loop : tie.MeasureT-loop
 
 -- where a desk is looked at
 abbrev Looks : Type 0
-Looks = tie.After-member-after Inv-loop μ-loop
+Looks = tie.After-looked-member Inv-loop μ-loop
+
+-- the member whose desk it is
+is-met : (c : Looks) → let l = c .before .before in
+    c .looked-member .result ≡ at (round (length (l .before .before .args .desks .now)) (l .before .before .args .last)) (l .loop .k)
+is-met c =
+    let l = c .before .before in
+    let s = l .before in
+    met (length (s .before .args .desks .now)) (s .before .args .last) (l .loop .k) (s .looked-at .result)
+    (s .looked-at .ensures) (c .before .loop-test .taken) (c .looked-member .result) (c .looked-member .ensures)
 
 seen : (c : Looks) → let n = length (c .before .before .before .before .args .desks .now) in
-    (1 ≤ c .member-after .result) × (c .member-after .result - 1 < n) × (n ≤ desks-most)
+    (1 ≤ c .looked-member .result) × (c .looked-member .result - 1 < n) × (n ≤ desks-most)
 seen c =
     let l = c .before .before in
     let s = l .before in
     in-desks (length (s .before .args .desks .now)) (s .before .args .last) (l .loop .k) (s .looked-at .result)
-    (s .looked-at .ensures) (c .before .loop-test .taken) (c .member-after .result) (c .member-after .ensures)
+    (s .looked-at .ensures) (c .before .loop-test .taken) (c .looked-member .result) (is-met c)
 
 looked-at-requires : tie.Need-looked-at-requires Inv-loop μ-loop
 looked-at-requires c κs = search needs
@@ -32,8 +43,8 @@ looked-at-requires c κs = search needs
 loop-holds : tie.Need-loop-holds Inv-loop μ-loop
 loop-holds c = (search needs, begins (c .before .args .desks .now) (c .before .args .last))
 
-member-after-requires : tie.Need-member-after-requires Inv-loop μ-loop
-member-after-requires c κs = asks _ _ _ _ (c .before .before .looked-at .ensures) (c .loop-test .taken)
+looked-member-requires : tie.Need-looked-member-requires Inv-loop μ-loop
+looked-member-requires c κs = search needs
 
 sub-desk-of : tie.Need-sub-desk-of Inv-loop μ-loop
 sub-desk-of c = omega (arith, seen c)
@@ -66,8 +77,8 @@ loop-again c =
     let looked = below (length (a .desks .now)) (a .last) (l .loop .k) (l .before .looked-at .result) (l .before .looked-at .ensures)
     (t .loop-test .taken) in (
       omega arith,
-      one-more (a .desks .now) (a .last) (l .loop .k) (l .loop .c) (l .loop .inv .1) (j .member-after .result) (x .desk-of .result)
-          (c .note .result) looked (j .member-after .ensures) (x .desk-of .ensures) (c .note .ensures),
+      one-more (a .desks .now) (a .last) (l .loop .k) (l .loop .c) (l .loop .inv .1) (j .looked-member .result) (x .desk-of .result)
+          (c .note .result) looked (is-met j) (x .desk-of .ensures) (c .note .ensures),
     )
 
 returns : tie.Need-returns Inv-loop μ-loop
@@ -85,7 +96,7 @@ choose-spec =
     μ-loop
     looked-at-requires
     loop-holds
-    member-after-requires
+    looked-member-requires
     sub-desk-of
     mul-desk-of
     shared-slice-copy-out-desk-of
