@@ -12,4 +12,5 @@ pub mod Spots
 pub mod Views
 pub mod Passes
 pub mod Walks
+pub mod Ends
 pub mod Vectors

@@ -1,13 +1,16 @@
 -- The tests of one pass over the names of a node, each on its own, against those of the definition.
-use mathlib.Core.Path.{_≡_, _∙_, sym, refl}
+use mathlib.Core.Path.{_≡_, _∙_, ap, sym, refl}
 use mathlib.Core.List.{List, [], _∷_}
 use mathlib.Core.Bool.{Bool, true, false, _&&_, and-true, and-false}
 use Prim.Native.Nat.{ℕ, _+_, _≤_, _<_}
+use native.Mathlib.Nat.{add-zero}
 use native.Mathlib.Omega.{arith}
 use borrow.Author.Tests.{lt-ltb, le-leb, ltb-true, leb-true, ne-eqb}
 use lib.Dec.{ltb, leb, eqb}
+use lib.ListN.{length}
 use Rattle.words.specs.Tests.{if_then_else_}
-use Rattle.node.specs.Lists.{rising, covered}
+use Rattle.node.specs.Lists.{rising, covered, last-of}
+use Rattle.node.specs.Looked.{ends}
 use Rattle.words.proofs.Tests.{both}
 
 -- a key may come after j others, the last of them `low`
@@ -16,10 +19,6 @@ follows j low x = if eqb j 0 then leb low x else ltb low x
 
 pub later : (j : ℕ) → eqb (j + 1) 0 ≡ false
 later j = ne-eqb (j + 1) 0 (λ e. omega arith)
-
--- the last of j keys is below the end
-abbrev pub ends : ℕ → ℕ → ℕ → Bool
-ends hi j last = if eqb j 0 then true else ltb last hi
 
 -- its tests, each on its own: the keys rise, the last is below the end
 unfoldable pub rises : ℕ → ℕ → List ℕ → Bool
@@ -30,12 +29,19 @@ unfoldable pub final : ℕ → ℕ → ℕ → List ℕ → Bool
 final hi j low [] = ends hi j low
 final hi j low (x ∷ xs) = final hi (j + 1) x xs
 
+pub final-is : (hi j low : ℕ) (xs : List ℕ) → final hi j low xs ≡ ends hi (j + length xs) (last-of low xs)
+unfolding final last-of
+final-is hi j low [] = rw (add-zero j)
+final-is hi j low (x ∷ xs) =
+    let more : j + 1 + length xs ≡ j + length (x ∷ xs) = omega arith in
+    final-is hi (j + 1) x xs ∙ ap (λ (n : ℕ). ends hi n (last-of x xs)) more
+
 -- a test that fails early fails the whole
-pub turned : (a f x r z : Bool) → (if a then (if f then (x && r && z) else false) else false) ≡ ((a && x) && (f && r) && z)
-turned false f x r z = refl
-turned true true x r z = refl
-turned true false true r z = refl
-turned true false false r z = refl
+pub turned : (a f x r : Bool) → (if a then (if f then (x && r) else false) else false) ≡ ((a && x) && (f && r))
+turned false f x r = refl
+turned true true x r = refl
+turned true false true r = refl
+turned true false false r = refl
 
 rises-on : (j x : ℕ) (xs : List ℕ) → rises (j + 1) x xs ≡ rising (x ∷ xs)
 unfolding rises rising

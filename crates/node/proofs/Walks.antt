@@ -2,51 +2,48 @@
 use mathlib.Core.Path.{_≡_, _∙_, ap, sym, refl}
 use mathlib.Core.List.{List, [], _∷_, map}
 use mathlib.Core.Bool.{Bool, true, false, _&&_, and-false, false≢true}
-use Prim.Native.Nat.{ℕ, suc, _+_, _-_, _/_, _%_, _≤_, _<_}
+use Prim.Native.Nat.{ℕ, zero, suc, _+_, _-_, _/_, _%_, _≤_, _<_}
 use native.Mathlib.Nat.{add-zero, zero-add}
 use native.Mathlib.Omega.{arith}
-use borrow.Author.Tests.{lt-ltb, le-leb, ltb-true, ltb-false, lt-leb}
-use lib.Dec.{ltb, leb}
-use lib.ListN.{length}
+use borrow.Author.Tests.{lt-ltb, le-leb, ltb-true, ltb-false, lt-leb, ne-eqb}
+use lib.Dec.{ltb, leb, eqb}
+use lib.ListN.{length, length-map}
 use mir.Val.{boolByte}
 use Rattle.words.specs.Tests.{if_then_else_, within}
 use Rattle.words.specs.Event.{at}
 use Rattle.words.proofs.Turns.{turn, over}
-use Rattle.node.specs.Lists.{all-below, different, rising, covered, upto}
+use Rattle.node.specs.Lists.{all-below, different, rising, covered, upto, last-of}
 use Rattle.node.specs.Slot.{byte, bytes, count, names, entries}
-use Rattle.node.specs.View.{slot-at, view, keys, sound, good}
-use Rattle.node.specs.Looked.{Looked, end-of}
-use Rattle.node.specs.declared.cover.Cover.{Cover}
-use Rattle.node.proofs.Passes.{follows, ends, later, rises, final, turned, rises-covered, assembled}
+use Rattle.node.specs.View.{slot-at, view, keys, entry, sound, good}
+use Rattle.node.specs.Looked.{Looked, ends}
+use Rattle.node.proofs.Passes.{follows, later, rises, final, final-is, turned, rises-covered, assembled}
 use Rattle.node.proofs.Ranks.{rising-different}
 use Rattle.node.proofs.Slots.{length-names, names-at}
 use Rattle.node.proofs.Views.{key-of, keys-map}
 
--- whether the names passed, and how many of their keys are not above the key
+-- whether the names passed, how many of their keys are not above the key, and the last of them
 abbrev pub Pass : Type 0
-Pass = Bool × ℕ
+Pass = Bool × ℕ × ℕ
 
 abbrev pub bad : Pass
-bad = (false, 0)
+bad = (false, 0, 0)
 
--- f is the key of an entry, of which there are `most`; hi is the upper end
-module _ (f : ℕ → ℕ) (most hi key : ℕ) where
+-- f is the key of an entry, of which there are `most`
+module _ (f : ℕ → ℕ) (most key : ℕ) where
   abbrev pub walk : ℕ → ℕ → ℕ → List ℕ → Pass
-  walk j low after [] = (ends hi j low, after)
+  walk j low after [] = (true, after, low)
   walk j low after (e ∷ es) =
       if ltb e most
       then (if follows j low (f e) then walk (j + 1) (f e) (after + boolByte (leb (f e) key)) es else bad)
       else bad
 
-  walk-good : (j low after : ℕ) (ns : List ℕ)
-      → walk j low after ns .0 ≡ (all-below most ns && rises j low (map f ns) && final hi j low (map f ns))
-  unfolding all-below rises final
+  walk-good : (j low after : ℕ) (ns : List ℕ) → walk j low after ns .0 ≡ (all-below most ns && rises j low (map f ns))
+  unfolding all-below rises
   walk-good j low after [] = refl
   walk-good j low after (e ∷ es) =
       good-if (ltb e most) (follows j low (f e)) _
       ∙ rw (walk-good (j + 1) (f e) (after + boolByte (leb (f e) key)) es)
-      (turned (ltb e most) (follows j low (f e)) (all-below most es) (rises (j + 1) (f e) (map f es))
-      (final hi (j + 1) (f e) (map f es)))
+      (turned (ltb e most) (follows j low (f e)) (all-below most es) (rises (j + 1) (f e) (map f es)))
     where
       good-if : (a b : Bool) (l : Pass)
           → (if a then (if b then l else bad) else bad) .0 ≡ (if a then (if b then l .0 else false) else false)
@@ -91,6 +88,20 @@ module _ (f : ℕ → ℕ) (most hi key : ℕ) where
       go true false s u l i p g = absurd (false≢true g)
       go false b s u l i p g = absurd (false≢true g)
 
+  walk-last : (j low after : ℕ) (ns : List ℕ) → walk j low after ns .0 ≡ true → walk j low after ns .2 ≡ last-of low (map f ns)
+  unfolding last-of
+  walk-last j low after [] g = refl
+  walk-last j low after (e ∷ es) g =
+      let more = after + boolByte (leb (f e) key) in
+      go (ltb e most) (follows j low (f e)) (walk (j + 1) (f e) more es) (walk-last (j + 1) (f e) more es) g
+    where
+      go : (a b : Bool) (l : Pass) → (l .0 ≡ true → l .2 ≡ last-of (f e) (map f es))
+          → (if a then (if b then l else bad) else bad) .0 ≡ true
+          → (if a then (if b then l else bad) else bad) .2 ≡ last-of (f e) (map f es)
+      go true true l i g = i g
+      go true false l i g = absurd (false≢true g)
+      go false b l i g = absurd (false≢true g)
+
   -- one turn, and the end, over what is left of a word of names
   module _ (j low after n rest : ℕ) where
     module _ (h : j < n) {e : ℕ} (is : e ≡ rest % byte) where
@@ -108,59 +119,95 @@ module _ (f : ℕ → ℕ) (most hi key : ℕ) where
       unfolding bytes
       walk-on t u = rw (turn n j h, ← is, t, u)
 
-    pub walk-end : n ≤ j → walk j low after (bytes (n - j) rest) ≡ (ends hi j low, after)
+    pub walk-end : n ≤ j → walk j low after (bytes (n - j) rest) ≡ (true, after, low)
     unfolding bytes
     walk-end h = rw (over n j h)
 
--- a node whose names were gone over from the first to the last, by the slot word w and the count n that the code has read
-module _ (least : ℕ) (c : Cover) (key : ℕ) (m : List ℕ) (k : ℕ) {w n : ℕ} (word : w ≡ at m (slot-at k)) (number : n ≡ count w) where
-  abbrev tested : Bool
-  tested = good least (c .lo) (end-of c) (view m k)
+-- what is asked only where a test passed
+then-same : (b x y : Bool) → (b ≡ true → x ≡ y) → (b && x) ≡ (b && y)
+then-same true x y h = h refl
+then-same false x y h = refl
 
+-- a node whose names were gone over from the first to the last, by the slot word w and the count n that the code has read
+module _ (least from key : ℕ) (m : List ℕ) (k : ℕ) {w n : ℕ} (word : w ≡ at m (slot-at k)) (number : n ≡ count w) where
   tally : (b : Bool) → within least n entries ≡ b → within least (count (at m (slot-at k))) entries ≡ b
   tally b e = rw (← word, ← number) e
 
-  miscounted : within least (count (at m (slot-at k))) entries ≡ false → tested ≡ false
-  unfolding view good sound
-  miscounted t = rw (length-names (at m (slot-at k)), t)
-
   -- the answer for a node that is not good
-  unfit : tested ≡ false → Looked least c key (view m k) (record { good = false; after = 0 })
-  unfit t = record { good-is = sym t; after-is = λ g. absurd (false≢true g) }
+  unfit : within least (count (at m (slot-at k))) entries ≡ false
+      → Looked least from key (view m k) (record { good = false; after = 0; last = 0 })
+  unfolding view good sound
+  unfit t = record {
+    good-is = λ hi. rw (length-names (at m (slot-at k)), t);
+    after-is = λ g. absurd (false≢true g);
+    last-is = λ g. absurd (false≢true g);
+  }
 
-  pub too-few : n < least → Looked least c key (view m k) (record { good = false; after = 0 })
-  too-few h = unfit (miscounted (tally false (rw (lt-leb least n h))))
+  pub too-few : n < least → Looked least from key (view m k) (record { good = false; after = 0; last = 0 })
+  too-few h = unfit (tally false (rw (lt-leb least n h)))
 
-  pub too-many : entries < n → Looked least c key (view m k) (record { good = false; after = 0 })
-  too-many h = unfit (miscounted (tally false (rw (lt-leb n entries h) (and-false (leb least n)))))
+  pub too-many : entries < n → Looked least from key (view m k) (record { good = false; after = 0; last = 0 })
+  too-many h = unfit (tally false (rw (lt-leb n entries h) (and-false (leb least n))))
+
+  -- a node that names no entry
+  pub none-named : n ≡ 0 → Looked least from key (view m k) (record { good = eqb least 0; after = 0; last = from })
+  unfolding view good sound names bytes all-below different rising covered upto last-of
+  none-named z =
+      let e : count (at m (slot-at k)) ≡ 0 = sym (number ∙ ap count word) ∙ z in
+      record { good-is = λ hi. rw e (few least); after-is = λ g. rw e; last-is = λ g. rw e }
+    where
+      few : (l : ℕ) → (within l 0 entries && true && true && true && true) ≡ (eqb l 0 && true)
+      few zero = refl
+      few (suc l) = rw (ne-eqb (suc l) 0 (λ q. omega arith), lt-leb (suc l) 0 (omega arith))
 
   abbrev whole : Pass
-  whole = walk (key-of m k) entries (end-of c) key 0 (c .lo) 0 (names (at m (slot-at k)))
+  whole = walk (key-of m k) entries key 0 from 0 (names (at m (slot-at k)))
 
-  whole-good : within least (count (at m (slot-at k))) entries ≡ true → whole .0 ≡ tested
-  unfolding view good sound
-  whole-good counted =
+  whole-last : whole .0 ≡ true → whole .2 ≡ last-of from (keys (view m k .records))
+  unfolding view
+  whole-last g =
       let ns = names (at m (slot-at k)) in
-      let ks = map (key-of m k) ns in
-      walk-good (key-of m k) entries (end-of c) key 0 (c .lo) 0 ns
-      ∙ rw (keys-map m k ns)
-      (assembled (all-below entries ns) (different ns) (rises 0 (c .lo) ks) (final (end-of c) 0 (c .lo) ks)
-      (rising ks) (covered (c .lo) (end-of c) ks) (within least (length ns) entries)
-      (rises-covered (end-of c) (c .lo) ks) (rising-different (key-of m k) ns) (rw (length-names (at m (slot-at k))) counted))
+      rw (keys-map m k ns) (walk-last (key-of m k) entries key 0 from 0 ns g)
 
   whole-after : whole .0 ≡ true → whole .1 ≡ upto key (keys (view m k .records))
   unfolding view
   whole-after g =
       let ns = names (at m (slot-at k)) in
-      rw (keys-map m k ns) (walk-counts (key-of m k) entries (end-of c) key 0 (c .lo) 0 ns g ∙ zero-add _)
+      rw (keys-map m k ns) (walk-counts (key-of m k) entries key 0 from 0 ns g ∙ zero-add _)
 
-  pub walked : least ≤ n → n ≤ entries → {b : Bool} {r : ℕ}
-      → walk (key-of m k) entries (end-of c) key 0 (c .lo) 0 (bytes n (w / byte)) ≡ (b, r)
-      → Looked least c key (view m k) (record { good = b; after = r })
-  walked h l {b = b} {r = r} e =
-      let is : whole ≡ (b, r) = rw (← word, ← names-at w number) e in
+  -- of a node whose keys rise the last alone is held against an end
+  whole-ends : whole .0 ≡ true → (hi : ℕ)
+      → final hi 0 from (map (key-of m k) (names (at m (slot-at k)))) ≡ ends hi (length (view m k .records)) (whole .2)
+  unfolding view
+  whole-ends g hi =
+      let ns = names (at m (slot-at k)) in
+      let ks = map (key-of m k) ns in
+      let many : 0 + length ks ≡ length (map (entry m k) ns) = zero-add _ ∙ length-map ns (key-of m k) ∙ sym (length-map ns (entry m k)) in
+      final-is hi 0 from ks ∙ rw (many, whole-last g, keys-map m k ns)
+
+  whole-good : within least (count (at m (slot-at k))) entries ≡ true → (hi : ℕ)
+      → good least from hi (view m k) ≡ (whole .0 && ends hi (length (view m k .records)) (whole .2))
+  unfolding view good sound
+  whole-good counted hi =
+      let ns = names (at m (slot-at k)) in
+      let ks = map (key-of m k) ns in
+      let joined : (all-below entries ns && rises 0 from ks && final hi 0 from ks)
+      ≡ (within least (length ns) entries && all-below entries ns && different ns && rising ks && covered from hi ks) =
+      assembled (all-below entries ns) (different ns) (rises 0 from ks) (final hi 0 from ks)
+      (rising ks) (covered from hi ks) (within least (length ns) entries)
+      (rises-covered hi from ks) (rising-different (key-of m k) ns) (rw (length-names (at m (slot-at k))) counted) in
+      rw (keys-map m k ns, ← joined, ← walk-good (key-of m k) entries key 0 from 0 ns)
+      (then-same (whole .0) _ _ (λ g. whole-ends g hi))
+
+  pub walked : least ≤ n → n ≤ entries → {b : Bool} {r x : ℕ}
+      → walk (key-of m k) entries key 0 from 0 (bytes n (w / byte)) ≡ (b, r, x)
+      → Looked least from key (view m k) (record { good = b; after = r; last = x })
+  walked h l {b = b} {r = r} {x = x} e =
+      let is : whole ≡ (b, r, x) = rw (← word, ← names-at w number) e in
       let first : whole .0 ≡ b = ap (λ (p : Pass). p .0) is in
+      let third : whole .2 ≡ x = ap (λ (p : Pass). p .2) is in
       record {
-        good-is = sym first ∙ whole-good (tally true (rw (le-leb least n h, le-leb n entries l)));
+        good-is = λ hi. whole-good (tally true (rw (le-leb least n h, le-leb n entries l))) hi ∙ rw (first, third);
         after-is = λ t. sym (ap (λ (p : Pass). p .1) is) ∙ whole-after (first ∙ t);
+        last-is = λ t. sym third ∙ whole-last (first ∙ t);
       }

@@ -47,6 +47,11 @@ unfoldable pub upto : ℕ → List ℕ → ℕ
 upto x [] = 0
 upto x (y ∷ ys) = if ltb x y then 0 else suc (upto x ys)
 
+-- the last of the list, d for none
+unfoldable pub last-of : ℕ → List ℕ → ℕ
+last-of d [] = d
+last-of d (x ∷ xs) = last-of x xs
+
 -- the lowest number from i on, of n, that is not in the list; i + n if there is none
 unfoldable pub lowest-from : ℕ → ℕ → List ℕ → ℕ
 lowest-from i zero xs = i

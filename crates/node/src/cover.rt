@@ -6,16 +6,19 @@ pub struct Cover {
     pub open: bool,
 }
 
-// Whether a node is good; if so, how many of its keys are not above a key: those before the child that covers it.
+// Whether a node is sound, its keys from a lower end on. If so, how many of them are not above a key, those before the child that covers
+// it; and the last of them, the lower end for none: it alone is to be held against an upper end.
 pub struct Look {
     pub good: bool,
     pub after: u64,
+    pub last: u64,
 }
 
 impl Look {
     pub const BAD: Look = Look {
         good: false,
         after: 0,
+        last: 0,
     };
 }
 

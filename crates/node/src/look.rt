@@ -13,6 +13,7 @@ ghost use Rattle.words.specs.Tests.{if_then_else_};
 ghost use Rattle.words.specs.Event.{at};
 ghost use Rattle.node.specs.Lists.{upto};
 ghost use Rattle.node.specs.View as v;
+ghost use Rattle.node.specs.Looked as l;
 ghost use Rattle.node.specs.Looked.{Inside, Looked, Placed, end-of};
 
 // Key x may come after j others: the first is not below `low`, and each later one above it.
@@ -27,7 +28,7 @@ fn follows(j: u64, low: u64, x: u64) -> bool
 
 // The last of j rising keys is below the cover's upper end, and so all are.
 fn ends(cover: Cover, j: u64, last: u64) -> bool
-    ensures { λ r. ⌜ r ≡ (if eqb j 0 then true else ltb last (end-of cover)) ⌝ }
+    ensures { λ r. ⌜ r ≡ l.ends (end-of cover) j last ⌝ }
 {
     if j == 0 {
         return true;
@@ -39,11 +40,18 @@ fn ends(cover: Cover, j: u64, last: u64) -> bool
 }
 
 // Node k, whose slot word is w, looked at for a key. What is not good is left at the first fault. Names whose keys rise are all different.
-pub fn look(pool: &[u64], k: u64, w: u64, least: u64, cover: Cover, key: u64) -> Look
+pub fn look(pool: &[u64], k: u64, w: u64, least: u64, from: u64, key: u64) -> Look
     requires { ⌜ Inside (now pool) k × (w ≡ at (now pool) (v.slot-at k)) ⌝ }
-    ensures { λ r. ⌜ Looked least cover key (v.view (now (pool .entry)) k) r ⌝ }
+    ensures { λ r. ⌜ Looked least from key (v.view (now (pool .entry)) k) r ⌝ }
 {
     let n = count(w);
+    if n == 0 {
+        return Look {
+            good: least == 0,
+            after: 0,
+            last: from,
+        };
+    }
     if n < least {
         return Look::BAD;
     }
@@ -51,7 +59,7 @@ pub fn look(pool: &[u64], k: u64, w: u64, least: u64, cover: Cover, key: u64) ->
         return Look::BAD;
     }
     let mut rest = w >> 8;
-    let mut low = cover.lo;
+    let mut last = from;
     let mut after: u64 = 0;
     let mut j: u64 = 0;
     while j < n {
@@ -60,18 +68,31 @@ pub fn look(pool: &[u64], k: u64, w: u64, least: u64, cover: Cover, key: u64) ->
             return Look::BAD;
         }
         let x = record_key(pool, k, e);
-        if !follows(j, low, x) {
+        if !follows(j, last, x) {
             return Look::BAD;
         }
         after += (x <= key) as u64;
-        low = x;
+        last = x;
         rest = rest >> 8;
         j += 1;
     }
     Look {
-        good: ends(cover, j, low),
+        good: true,
         after,
+        last,
     }
+}
+
+// Whether node k, whose slot word is w, is good.
+pub fn fits(pool: &[u64], k: u64, w: u64, least: u64, cover: Cover) -> bool
+    requires { ⌜ Inside (now pool) k × (w ≡ at (now pool) (v.slot-at k)) ⌝ }
+    ensures { λ r. ⌜ r ≡ v.good least (cover .lo) (end-of cover) (v.view (now (pool .entry)) k) ⌝ }
+{
+    let seen = look(pool, k, w, least, cover.lo, 0);
+    if !seen.good {
+        return false;
+    }
+    ends(cover, count(w), seen.last)
 }
 
 // Where a key stands in sound node k, whose slot word is w and of whose keys so many are not above it: at the last of them, or after it.

@@ -7,11 +7,13 @@ use lib.Dec.{eqb}
 use lib.ListN.{getD}
 use Rattle.words.specs.Tests.{if_then_else_}
 use Rattle.words.specs.Event.{at}
+use Rattle.words.specs.declared.refusal.Refusal.{Refusal}
 use Rattle.words.specs.declared.refusal.Refusal.the-variants.{NoPool, Unfinished}
 use Rattle.node.specs.Slot.{names}
 use Rattle.node.specs.View.{value-at}
 use Rattle.tree.specs.Header.{commit-of, form-agrees}
 use Rattle.tree.specs.Path.{Way, failed, leaf, way-to}
+use Rattle.tree.specs.declared.descend.Seat.{Seat}
 use Rattle.tree.proofs.Find.{find-absent}
 use Rattle.tree.proofs.Leaves.{found-value}
 use Rattle.change.specs.declared.Outcome.{Outcome}
@@ -19,25 +21,24 @@ use Rattle.change.specs.declared.Outcome.the-variants.{Absent, Found, Refused}
 use Rattle.change.specs.Gate.{Planned, quiet, refused, at-leaf}
 use Rattle.change.specs.Fetch.{fetch-at, fetch}
 use Rattle.change.specs.Calls.{fetch-answer}
-use Rattle.pool.specs.declared.gate.Gate.{Gate}
-use Rattle.pool.specs.Passing.{Gated}
+use Rattle.pool.specs.declared.gate.Gate.the-variants as g
+use Rattle.pool.specs.Passing.{Admitted, Gated}
 use Rattle.pool.proofs.Gates.{found-leaf, gate-at}
 
 module _ (m : List ℕ) (key : ℕ) where
   says : {o : Outcome} → fetch m key ≡ quiet o → o ≡ fetch-answer m key
   says e = sym (ap (λ (p : Planned Outcome). p .answer) e)
 
-  module _ {g : Gate} (p : Gated m key g) where
-    pub fetch-shut : g .way .found ≡ false → Refused (g .why) ≡ fetch-answer m key
-    fetch-shut t = says (p .shut t (fetch-at m key))
+  pub fetch-shut : {why : Refusal} → Gated m key (g.Refused why) → Refused why ≡ fetch-answer m key
+  fetch-shut p = says (p (fetch-at m key))
 
-    module _ (t : g .way .found ≡ true) where
-      pub fetch-absent : g .way .there ≡ false → Absent ≡ fetch-answer m key
-      fetch-absent n = says (gate-at p t (fetch-at m key) ∙ rw (find-absent key _ (sym (found-leaf p t .there-is) ∙ n)) refl)
+  module _ {s : Seat} (p : Admitted m key s) where
+    pub fetch-absent : s .there ≡ false → Absent ≡ fetch-answer m key
+    fetch-absent n = says (gate-at p (fetch-at m key) ∙ rw (find-absent key _ (sym (p .seated .there-is) ∙ n)) refl)
 
-      pub fetch-found : g .way .there ≡ true → {e v : ℕ} → e ≡ getD (names (g .way .slot)) (g .way .rank) 0
-          → v ≡ at m (value-at (g .way .leaf) e) → Found v ≡ fetch-answer m key
-      fetch-found h e v = says (gate-at p t (fetch-at m key) ∙ rw (found-value (found-leaf p t) h e v) refl)
+    pub fetch-found : s .there ≡ true → {e v : ℕ} → e ≡ getD (names (s .slot)) (s .rank) 0
+        → v ≡ at m (value-at (s .leaf) e) → Found v ≡ fetch-answer m key
+    fetch-found h e v = says (gate-at p (fetch-at m key) ∙ rw (found-value (found-leaf p) h e v) refl)
 
 -- a fetch plans nothing, whatever it answers
 pub fetch-quiet : (m : List ℕ) (key : ℕ) → fetch m key ≡ quiet (fetch m key .answer)

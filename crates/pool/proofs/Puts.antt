@@ -15,7 +15,7 @@ use Rattle.node.specs.Lists.{insert}
 use Rattle.node.specs.Slot.{count, names, slot, entries, spot}
 use Rattle.node.specs.View.{View, view, slot-at, key-at, value-at}
 use Rattle.node.proofs.Slots.{length-names}
-use Rattle.tree.specs.declared.descend.Descent.{Descent}
+use Rattle.tree.specs.declared.descend.Seat.{Seat}
 use Rattle.tree.proofs.Leaves.{AtLeaf}
 use Rattle.change.specs.declared.Outcome.the-variants.{New, Replaced}
 use Rattle.change.specs.Steps.{entry-pairs}
@@ -44,23 +44,23 @@ module _ {u : View} {w key place : ℕ} (s : Says u w key place) (k value : ℕ)
       (wrote-append c₁ (wrote-append c₂ (wrote-append c₃ (wrote-append c₄ c₅))))
 
 -- the returns of a leaf that has the key, or room for it
-module _ {m : List ℕ} {key : ℕ} {d : Descent} (a : AtLeaf m key d) where
+module _ {m : List ℕ} {key : ℕ} {s : Seat} (a : AtLeaf m key s) where
   abbrev u : View
-  u = view m (d .leaf)
+  u = view m (s .leaf)
 
-  pub leaf-says : Says u (d .slot) key (d .rank)
-  leaf-says = record { names-are = a .names-are; rank-is = sym (a .rank-is) }
+  pub leaf-says : Says u (s .slot) key (s .rank)
+  leaf-says = record { names-are = a .names-are; rank-is = sym (a .seated .rank-is) }
 
-  named-count : length (u .named) ≡ count (d .slot)
-  named-count = ap length (a .names-are) ∙ length-names (d .slot)
+  named-count : length (u .named) ≡ count (s .slot)
+  named-count = ap length (a .names-are) ∙ length-names (s .slot)
 
   module _ (value : ℕ) (above : List ℕ) where
-    pub put-present : d .there ≡ true
-        → put-at m key value (d .leaf) above ≡ record { answer = Replaced; events = replace-events (d .leaf) u (key, value) }
+    pub put-present : s .there ≡ true
+        → put-at m key value (s .leaf) above ≡ record { answer = Replaced; events = replace-events (s .leaf) u (key, value) }
     unfolding put-at
-    put-present t = rw (sym (a .there-is) ∙ t)
+    put-present t = rw (sym (a .seated .there-is) ∙ t)
 
-    pub put-room : d .there ≡ false → count (d .slot) < entries
-        → put-at m key value (d .leaf) above ≡ record { answer = New; events = fill-events (d .leaf) u (key, value) }
+    pub put-room : s .there ≡ false → count (s .slot) < entries
+        → put-at m key value (s .leaf) above ≡ record { answer = New; events = fill-events (s .leaf) u (key, value) }
     unfolding put-at
-    put-room t h = rw (sym (a .there-is) ∙ t, ne-eqb (length (u .named)) entries (λ e. omega (arith, named-count)))
+    put-room t h = rw (sym (a .seated .there-is) ∙ t, ne-eqb (length (u .named)) entries (λ e. omega (arith, named-count)))

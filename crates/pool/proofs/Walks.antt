@@ -14,8 +14,7 @@ use Rattle.words.specs.Event.{at}
 use Rattle.words.proofs.Tests.{both, within-says}
 use Rattle.node.specs.Slot.{byte, count, names, entries}
 use Rattle.node.specs.View.{View, view, slot-at, link-at}
-use Rattle.node.specs.Looked.{Looked, end-of}
-use Rattle.node.specs.declared.cover.Look.{Look}
+use Rattle.node.specs.Looked.{end-of}
 use Rattle.node.proofs.Slots.{length-names}
 use Rattle.node.proofs.Views.{Good, good-parts, view-names, view-length}
 use Rattle.tree.specs.Header.{capacity-of, used-of}
@@ -108,10 +107,10 @@ module _ {m marks marks′ : List ℕ} {r : Bool} (kid : Kid) (s : Seen) (met : 
     number-in = within-says 1 (kid .number) (used-of m) (tests .0)
 
     -- a good node has children, from slot 0 on
-    pub slots : {least w : ℕ} {l : Look} → Looked least (kid .cover) 0 said l → not (l .good) ≡ false → w ≡ at m (slot-at (kid .number))
+    pub slots : (least : ℕ) {w : ℕ} {b : Bool} → b ≡ k.fits least (kid-of kid) said → not b ≡ false → w ≡ at m (slot-at (kid .number))
         → Slots m (kid .number) w 0
-    slots {least} {w} {l} x g e =
-        let p : Good least (kid .cover .lo) (end-of (kid .cover)) said = good-parts (sym (x .good-is) ∙ not-false (l .good) g) in
+    slots least {b = b} x g e =
+        let p : Good least (kid .cover .lo) (end-of (kid .cover)) said = good-parts (sym x ∙ not-false b g) in
         let few : length (names (at m (slot-at (kid .number)))) ≤ entries = rw view-names at (p .most-named) in
         record {
           first = number-in .0;
@@ -198,17 +197,17 @@ module _ {m marks marks′ : List ℕ} {r : Bool} (kid : Kid) (s : Seen) (met : 
               rw (e, marked n) (leaf-cases good linked (kid .number) (s .last) seen (t.marked (kid .number) marks)
               ∙ node-leaf m least parent (kid-of kid) (seen-with s marks) (fresh n) levels z)
 
-      module _ (z : levels ≡ 0 → ⊥) {l : Look} (x : Looked least (kid .cover) 0 said l) where
-        pub bad : not (l .good) ≡ true → Walks m walk (Fault (kid .number)) marks′
+      module _ (z : levels ≡ 0 → ⊥) {b : Bool} (x : b ≡ k.fits least (kid-of kid) said) where
+        pub bad : not b ≡ true → Walks m walk (Fault (kid .number)) marks′
         bad g =
-            let b = sym (x .good-is) ∙ not-true (l .good) g in
-            stopped (node-bad m least parent (kid-of kid) (seen-with s marks) (fresh n) levels z b ∙ rw (marked n))
+            let f = sym x ∙ not-true b g in
+            stopped (node-bad m least parent (kid-of kid) (seen-with s marks) (fresh n) levels z f ∙ rw (marked n))
 
-        pub down : not (l .good) ≡ false → {link : ℕ} → link ≡ at m (link-at (kid .number)) → {a : Walk} {marks″ : List ℕ}
+        pub down : not b ≡ false → {link : ℕ} → link ≡ at m (link-at (kid .number)) → {a : Walk} {marks″ : List ℕ}
             → Walks m (t.each-child (t.node-walk (levels - 1) m k.below-root-least (kid .number))
             (k.kids-from link (kid .cover .lo) (end-of (kid .cover)) (said .records))
             (seen-with (record { last = s .last; nodes = s .nodes + 1; records = s .records }) marks′)) a marks″ → Walks m walk a marks″
         down g e y =
-            let b = sym (x .good-is) ∙ not-false (l .good) g in
+            let f = sym x ∙ not-false b g in
             carried (rw (e, ← view-link m (kid .number), marked n)
-            (node-down m least parent (kid-of kid) (seen-with s marks) (fresh n) levels z b)) y
+            (node-down m least parent (kid-of kid) (seen-with s marks) (fresh n) levels z f)) y

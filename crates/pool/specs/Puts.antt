@@ -2,19 +2,18 @@
 use Prim.Native.Nat.{ℕ}
 use mathlib.Core.Path.{_≡_}
 use mathlib.Core.List.{List}
-use mathlib.Core.Bool.{true, false}
-use lib.ListN.{take, drop}
+use mathlib.Core.Bool.{false}
 use Rattle.words.specs.Written.{Wrote}
 use Rattle.node.specs.Slot.{count, names, entries}
 use Rattle.node.specs.View.{Record, View}
-use Rattle.tree.specs.Header.{form-agrees}
-use Rattle.tree.specs.Path.{levels-above}
-use Rattle.tree.specs.declared.descend.Descent.{Descent}
-use Rattle.tree.specs.Descended.{Descended}
+use Rattle.tree.specs.Path.{way-to}
+use Rattle.tree.specs.Descended.{above-of}
+use Rattle.tree.specs.declared.descend.Seat.{Seat}
 use Rattle.change.specs.declared.Outcome.{Outcome}
 use Rattle.change.specs.Gate.{Planned}
 use Rattle.change.specs.Steps.{rank}
 use Rattle.change.specs.Put.{replace-events, fill-events, put-at}
+use Rattle.pool.specs.Passing.{Admitted}
 
 -- a leaf that says u has the slot word w, and a key its place there
 pub record Says (u : View) (w key place : ℕ) : Type 0 where
@@ -31,13 +30,11 @@ abbrev pub Fills : ℕ → ℕ → ℕ → Record → List ℕ → ℕ → List 
 Fills k w place x l r l′ = (u : View) → Says u w (x .0) place → Wrote (fill-events k u x) 0 l r l′
 
 -- the way down to a key found its leaf, which is full and has not the key
-pub record Full (m : List ℕ) (key : ℕ) (d : Descent) : Type 0 where
-  pub form-is : form-agrees m ≡ true
-  pub way : Descended m key d
-  pub found : d .found ≡ true
-  pub absent : d .there ≡ false
-  pub full : count (d .slot) ≡ entries
+pub record Full (m : List ℕ) (key : ℕ) (s : Seat) : Type 0 where
+  pub admitted : Admitted m key s
+  pub absent : s .there ≡ false
+  pub full : count (s .slot) ≡ entries
 
--- what a put does there
-abbrev pub put-full : List ℕ → ℕ → ℕ → Descent → Planned Outcome
-put-full m key value d = put-at m key value (d .leaf) (take (levels-above m) (drop 1 (d .path)))
+-- what a put does at the leaf
+abbrev pub put-there : List ℕ → ℕ → ℕ → Seat → Planned Outcome
+put-there m key value s = put-at m key value (s .leaf) (above-of (way-to m key))

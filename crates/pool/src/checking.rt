@@ -5,7 +5,7 @@ use node::Node;
 use node::layout::link;
 use node::layout::record_key;
 use node::layout::record_value;
-use node::look::look;
+use node::look::fits;
 use node::slot::count;
 use node::slot::name;
 use tree::header::counts_agree;
@@ -120,8 +120,7 @@ fn check_leaf(pool: &[u64], word: u64, kid: Kid, seen: Seen) -> Walk
 {
     let k = kid.number;
     let last = seen.last;
-    let looked = look(pool, k, word, Kid::LEAF_LEAST, kid.cover, 0);
-    if !looked.good {
+    if !fits(pool, k, word, Kid::LEAF_LEAST, kid.cover) {
         return Walk::Fault(k);
     }
     if !links_to(pool, last, k) {
@@ -157,8 +156,7 @@ fn check_node(
         return check_leaf(pool, word, kid, seen);
     }
     let cover = kid.cover;
-    let looked = look(pool, k, word, least, cover, 0);
-    if !looked.good {
+    if !fits(pool, k, word, least, cover) {
         return Walk::Fault(k);
     }
     let leftmost = Kid {

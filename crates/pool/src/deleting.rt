@@ -1,5 +1,6 @@
 // Delete: a leaf's slot word without the name of a key.
 use crate::answers::quiet;
+use crate::gate::Gate;
 use crate::gate::pass_gate;
 use change::Answer;
 use change::Outcome;
@@ -18,18 +19,18 @@ pub fn delete(pool: &[u64], list: &mut [u64], key: u64) -> Answer
         return quiet(Outcome::Refused(Refusal::ShortList));
     }
     let gate = pass_gate(pool, key);
-    let way = gate.way;
-    if !way.found {
-        let why = gate.why;
-        return quiet(Outcome::Refused(why));
-    }
-    if !way.there {
-        return quiet(Outcome::Absent);
-    }
-    let slot = without_name(way.slot, way.rank);
-    let events = write_once(list, 0, Pool::node_at(way.leaf), slot);
-    Answer {
-        outcome: Outcome::Removed,
-        events,
+    match gate {
+        Gate::Refused(why) => quiet(Outcome::Refused(why)),
+        Gate::Passed(seat) => {
+            if !seat.there {
+                return quiet(Outcome::Absent);
+            }
+            let slot = without_name(seat.slot, seat.rank);
+            let events = write_once(list, 0, Pool::node_at(seat.leaf), slot);
+            Answer {
+                outcome: Outcome::Removed,
+                events,
+            }
+        }
     }
 }

@@ -1,4 +1,5 @@
 // Fetch: what stands under a key.
+use crate::gate::Gate;
 use crate::gate::pass_gate;
 use change::Outcome;
 use node::layout::record_value;
@@ -10,14 +11,14 @@ pub fn fetch(pool: &[u64], key: u64) -> Outcome
     ensures { λ r. ⌜ r ≡ fetch-answer (now (pool .entry)) key ⌝ }
 {
     let gate = pass_gate(pool, key);
-    let way = gate.way;
-    if !way.found {
-        let why = gate.why;
-        return Outcome::Refused(why);
+    match gate {
+        Gate::Refused(why) => Outcome::Refused(why),
+        Gate::Passed(seat) => {
+            if !seat.there {
+                return Outcome::Absent;
+            }
+            let entry = name(seat.slot, seat.rank);
+            Outcome::Found(record_value(pool, seat.leaf, entry))
+        }
     }
-    if !way.there {
-        return Outcome::Absent;
-    }
-    let entry = name(way.slot, way.rank);
-    Outcome::Found(record_value(pool, way.leaf, entry))
 }

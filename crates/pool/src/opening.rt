@@ -1,5 +1,4 @@
 // The eight records of a full node and a new one, in rising order of key.
-use node::Cover;
 use node::bytes::byte_at;
 use node::layout::record_key;
 use node::layout::record_value;
@@ -43,12 +42,7 @@ pub fn rank_of(pool: &[u64], k: u64, w: u64, key: u64) -> u64
     requires { ⌜ Met (now pool) k × (w ≡ at (now pool) (slot-at k)) ⌝ }
     ensures { λ r. ⌜ r ≡ rank (view (now (pool .entry)) k) key ⌝ }
 {
-    let every = Cover {
-        lo: 0,
-        hi: 0,
-        open: true,
-    };
-    let seen = look(pool, k, w, 0, every, key);
+    let seen = look(pool, k, w, 0, 0, key);
     let at = place(pool, k, w, seen.after, key);
     at.rank
 }

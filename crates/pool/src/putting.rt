@@ -1,6 +1,7 @@
 // Put: a key and its value into the leaf of the key.
 use crate::answers::quiet;
 use crate::crowded::put_full;
+use crate::gate::Gate;
 use crate::gate::pass_gate;
 use change::Answer;
 use change::Outcome;
@@ -9,6 +10,7 @@ use node::slot::count;
 use node::slot::name;
 use node::slot::spot;
 use node::slot::with_name;
+use tree::descend::Seat;
 use words::Pool;
 use words::Refusal;
 use words::write_fence;
@@ -22,8 +24,10 @@ ghost use lib.ListN.{length};
 ghost use Rattle.words.specs.Pool as p;
 ghost use Rattle.node.specs.Lists.{all-below};
 ghost use Rattle.node.specs.Slot as s;
+ghost use Rattle.change.specs.Gate.{answered, list-after};
 ghost use Rattle.change.specs.Calls.{put-answer, put-list};
-ghost use Rattle.pool.specs.Puts.{Replaces, Fills};
+ghost use Rattle.pool.specs.Passing.{Admitted};
+ghost use Rattle.pool.specs.Puts.{Replaces, Fills, put-there};
 
 // A present key: its value is stored.
 fn replace(list: &mut [u64], leaf: u64, slot: u64, rank: u64, value: u64) -> u64
@@ -49,6 +53,29 @@ fn fill(list: &mut [u64], leaf: u64, slot: u64, rank: u64, key: u64, value: u64)
     write_once(list, n4, Pool::node_at(leaf), with_name(slot, rank, entry))
 }
 
+// The leaf of the key was found.
+fn put_at(pool: &[u64], list: &mut [u64], seat: Seat, key: u64, value: u64) -> Answer
+    requires { ⌜ Admitted (now pool) key seat × (p.list-words ≤ length (now list)) ⌝ }
+    ensures answer { λ r. ⌜ r ≡ answered (put-there (now (pool .entry)) key value seat) ⌝ }
+    ensures list { λ _. ⌜ now (list .exit) ≡ list-after (put-there (now (pool .entry)) key value seat) (now (list .entry)) ⌝ }
+{
+    if seat.there {
+        let events = replace(list, seat.leaf, seat.slot, seat.rank, value);
+        return Answer {
+            outcome: Outcome::Replaced,
+            events,
+        };
+    }
+    if count(seat.slot) < Node::ENTRIES {
+        let events = fill(list, seat.leaf, seat.slot, seat.rank, key, value);
+        return Answer {
+            outcome: Outcome::New,
+            events,
+        };
+    }
+    put_full(pool, list, seat, key, value)
+}
+
 pub fn put(pool: &[u64], list: &mut [u64], key: u64, value: u64) -> Answer
     ensures answer { λ r. ⌜ r ≡ put-answer (now (pool .entry)) (now (list .entry)) key value ⌝ }
     ensures list { λ _. ⌜ now (list .exit) ≡ put-list (now (pool .entry)) (now (list .entry)) key value ⌝ }
@@ -57,24 +84,8 @@ pub fn put(pool: &[u64], list: &mut [u64], key: u64, value: u64) -> Answer
         return quiet(Outcome::Refused(Refusal::ShortList));
     }
     let gate = pass_gate(pool, key);
-    let way = gate.way;
-    if !way.found {
-        let why = gate.why;
-        return quiet(Outcome::Refused(why));
+    match gate {
+        Gate::Refused(why) => quiet(Outcome::Refused(why)),
+        Gate::Passed(seat) => put_at(pool, list, seat, key, value),
     }
-    if way.there {
-        let events = replace(list, way.leaf, way.slot, way.rank, value);
-        return Answer {
-            outcome: Outcome::Replaced,
-            events,
-        };
-    }
-    if count(way.slot) < Node::ENTRIES {
-        let events = fill(list, way.leaf, way.slot, way.rank, key, value);
-        return Answer {
-            outcome: Outcome::New,
-            events,
-        };
-    }
-    put_full(pool, list, way, key, value)
 }

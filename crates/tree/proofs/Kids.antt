@@ -6,13 +6,12 @@ use mathlib.Core.Bool.{Bool, true, false}
 use native.Mathlib.Omega.{arith}
 use lib.ListN.{length, getD}
 use lib.Dec.{ltb}
+use borrow.Author.Tests.{ltb-true, ltb-false}
 use Rattle.words.specs.Tests.{if_then_else_}
 use Rattle.words.specs.Event.{at}
 use Rattle.node.specs.Lists.{upto}
 use Rattle.node.specs.Slot.{count, names, entries}
 use Rattle.node.specs.View.{Record, view, keys, entry, slot-at, link-at, key-at, value-at}
-use Rattle.node.specs.Looked.{end-of}
-use Rattle.node.specs.declared.cover.Cover.{Cover}
 use Rattle.node.proofs.Every.{below-at}
 use Rattle.node.proofs.Slots.{length-names}
 use Rattle.node.proofs.Views.{view-length, record-at}
@@ -61,30 +60,30 @@ module _ (m : List ℕ) (k w : ℕ) (n : Named m k w) where
       let l : i < count (at m (slot-at k)) = rw (← n .word) h in
       (rw (view-length m k) l, record-at m k i (0, 0) l ∙ rw (← n .word, ← e) refl)
 
--- the child of node k under a cover that has j keys before it, from the words
-module _ (m : List ℕ) (k w : ℕ) (n : Named m k w) (c : Cover) (j : ℕ) where
+-- the child of node k that has j keys before it, from the words; the node covers [lo, hi)
+module _ (m : List ℕ) (k w : ℕ) (n : Named m k w) (lo hi j : ℕ) where
   abbrev z : Record
   z = (0, 0)
 
   abbrev rs : List Record
   rs = view m k .records
 
-  pub first-child : j ≡ 0 → at m (link-at k) ≡ kid-after m k c j .number
+  pub first-child : j ≡ 0 → at m (link-at k) ≡ kid-after m (kid k lo hi) j .number
   unfolding view
-  first-child e = rw e (sym (first-number (c .lo) (end-of c) _ (at m (link-at k)) rs))
+  first-child e = rw e (sym (first-number lo hi _ (at m (link-at k)) rs))
 
-  pub first-low : j ≡ 0 → c .lo ≡ kid-after m k c j .from
-  first-low e = rw e (sym (first-from (c .lo) (end-of c) _ (view m k .link) rs))
+  pub first-low : j ≡ 0 → lo ≡ kid-after m (kid k lo hi) j .from
+  first-low e = rw e (sym (first-from lo hi _ (view m k .link) rs))
 
-  pub last-high : count w ≤ j → j ≤ count w → end-of c ≡ kid-after m k c j .upto
+  pub last-high : count w ≤ j → j ≤ count w → hi ≡ kid-after m (kid k lo hi) j .upto
   last-high h g =
       let e : length rs ≡ count w = view-length m k ∙ ap count (sym (n .word)) in
-      sym (last-upto (end-of c) _ z (view m k .link) (c .lo) j rs (omega arith))
+      sym (last-upto hi _ z (view m k .link) lo j rs (omega arith))
 
-  pub high-at : {e x : ℕ} → j < count w → e ≡ getD (names w) j 0 → x ≡ at m (key-at k e) → x ≡ kid-after m k c j .upto
+  pub high-at : {e x : ℕ} → j < count w → e ≡ getD (names w) j 0 → x ≡ at m (key-at k e) → x ≡ kid-after m (kid k lo hi) j .upto
   high-at h e x =
       let a = named-at m k w n j h e in
-      x ∙ sym (inner-upto (end-of c) _ z (view m k .link) (c .lo) j rs (a .0) ∙ ap (λ (r : Record). r .0) (a .1))
+      x ∙ sym (inner-upto hi _ z (view m k .link) lo j rs (a .0) ∙ ap (λ (r : Record). r .0) (a .1))
 
   -- from the record before it
   module _ {e : ℕ} (some : j ≡ 0 → ⊥) (most : j ≤ count w) (name : e ≡ getD (names w) (j - 1) 0) where
@@ -94,14 +93,14 @@ module _ (m : List ℕ) (k w : ℕ) (n : Named m k w) (c : Cover) (j : ℕ) wher
     there : (j - 1 < length rs) × (getD rs (j - 1) z ≡ entry m k e)
     there = named-at m k w n (j - 1) (omega arith) name
 
-    pub later-child : {x : ℕ} → x ≡ at m (value-at k e) → x ≡ kid-after m k c j .number
+    pub later-child : {x : ℕ} → x ≡ at m (value-at k e) → x ≡ kid-after m (kid k lo hi) j .number
     later-child is =
-        let later = later-number (end-of c) _ z (view m k .link) (c .lo) (j - 1) rs (there .0) in
+        let later = later-number hi _ z (view m k .link) lo (j - 1) rs (there .0) in
         rw before (is ∙ sym (later ∙ ap (λ (r : Record). r .1) (there .1)))
 
-    pub later-low : {x : ℕ} → x ≡ at m (key-at k e) → x ≡ kid-after m k c j .from
+    pub later-low : {x : ℕ} → x ≡ at m (key-at k e) → x ≡ kid-after m (kid k lo hi) j .from
     later-low is =
-        let later = later-from (end-of c) _ z (view m k .link) (c .lo) (j - 1) rs (there .0) in
+        let later = later-from hi _ z (view m k .link) lo (j - 1) rs (there .0) in
         rw before (is ∙ sym (later ∙ ap (λ (r : Record). r .0) (there .1)))
 
 -- a key goes to the child that has before it the keys which are not above it
@@ -116,3 +115,18 @@ pick-is key hi d l lo (r ∷ rs) = go (ltb key (r .0)) (pick-is key hi d (r .1) 
         ≡ getD (kids-from l lo hi (r ∷ rs)) (if b then 0 else suc (upto key (keys rs))) d
     go true further = refl
     go false further = further
+
+-- and the child covers the key, if the node does
+pub pick-covers : (key l lo hi : ℕ) (rs : List Record) → lo ≤ key → key < hi
+    → (pick-from key l lo hi rs .from ≤ key) × (key < pick-from key l lo hi rs .upto)
+unfolding pick-from
+pick-covers key l lo hi [] h g = (h, g)
+pick-covers key l lo hi (r ∷ rs) h g =
+    go (ltb key (r .0)) refl (λ b. pick-covers key (r .1) (r .0) hi rs (ltb-false key (r .0) b) g)
+  where
+    go : (b : Bool) → ltb key (r .0) ≡ b
+        → let further = pick-from key (r .1) (r .0) hi rs in
+        (ltb key (r .0) ≡ false → (further .from ≤ key) × (key < further .upto))
+        → let c = if b then kid l lo (r .0) else further in (c .from ≤ key) × (key < c .upto)
+    go true e i = (h, ltb-true key (r .0) e)
+    go false e i = i e

@@ -5,21 +5,21 @@ use mathlib.Core.List.{List, [], _∷_}
 use mathlib.Core.Bool.{true}
 use mathlib.Core.Option.{some}
 use native.Mathlib.Omega.{arith}
-use lib.ListN.{length, getD, take, drop}
+use lib.ListN.{length, getD}
 use Rattle.words.specs.Tests.{within}
 use Rattle.words.specs.Event.{at}
-use Rattle.node.specs.Lists.{has, below, rising}
+use Rattle.node.specs.Lists.{rising}
 use Rattle.node.specs.Slot.{count, names}
 use Rattle.node.specs.View.{view, keys, good, value-at}
 use Rattle.node.proofs.Ranks.{found-at, below-length}
 use Rattle.node.proofs.Slots.{length-names}
 use Rattle.node.proofs.Views.{Good, good-parts, view-names, keys-many}
-use Rattle.tree.specs.declared.descend.Descent.{Descent}
+use Rattle.tree.specs.declared.descend.Seat.{Seat}
 use Rattle.tree.specs.Header.{used-of, form-agrees}
 use Rattle.tree.specs.Kids.{Kid, pick, root-kid, leaf-least, inner-least, fits}
-use Rattle.tree.specs.Path.{Way, leaf, parent, way, levels-above, way-to}
+use Rattle.tree.specs.Path.{Way, leaf, parent, way, levels-above}
 use Rattle.tree.specs.Map.{find}
-use Rattle.tree.specs.Descended.{Named, Descended}
+use Rattle.tree.specs.Descended.{Named, Seated}
 use Rattle.tree.proofs.Find.{find-present}
 use Rattle.tree.proofs.Path.{Passed, passed, way-to-counts, way-to-down}
 use Rattle.tree.proofs.Kids.{named-at}
@@ -48,50 +48,46 @@ way-good (suc n) m key c up {k} {above} e =
     way-good n m key (pick key c (view m (c .number))) (c .number ∷ up) (p .rest)
 
 -- the leaf that the way down to a key found, its names, and the key's place there
-pub record AtLeaf (m : List ℕ) (key : ℕ) (d : Descent) : Type 0 where
-  pub way-is : way-to m key ≡ leaf (d .leaf) (take (levels-above m) (drop 1 (d .path)))
-  pub named : Named m (d .leaf) (d .slot)
-  pub names-are : view m (d .leaf) .named ≡ names (d .slot)
-  pub rising-keys : rising (keys (view m (d .leaf) .records)) ≡ true
-  pub rank-is : d .rank ≡ below key (keys (view m (d .leaf) .records))
-  pub there-is : d .there ≡ has key (keys (view m (d .leaf) .records))
+pub record AtLeaf (m : List ℕ) (key : ℕ) (s : Seat) : Type 0 where
+  pub seated : Seated m key s
+  pub named : Named m (s .leaf) (s .slot)
+  pub names-are : view m (s .leaf) .named ≡ names (s .slot)
+  pub rising-keys : rising (keys (view m (s .leaf) .records)) ≡ true
 
-pub at-leaf : (m : List ℕ) (key : ℕ) (d : Descent) → form-agrees m ≡ true → Descended m key d → d .found ≡ true → AtLeaf m key d
-at-leaf m key d f w t =
-    let e : way-to m key ≡ leaf (d .leaf) (take (levels-above m) (drop 1 (d .path))) = w .way-is ∙ rw t refl in
-    let g : GoodLeaf m (d .leaf) = way-good (levels-above m) m key (root-kid m) [] (way-to-down m key e) in
-    let p : Good leaf-least (g .from) (g .upto) (view m (d .leaf)) = good-parts (g .is-good) in
-    let n : view m (d .leaf) .named ≡ names (d .slot) = view-names m (d .leaf) ∙ rw (w .slot-is t) refl in
+pub at-leaf : (m : List ℕ) (key : ℕ) (s : Seat) → form-agrees m ≡ true → Seated m key s → AtLeaf m key s
+at-leaf m key s f w =
+    let g : GoodLeaf m (s .leaf) = way-good (levels-above m) m key (root-kid m) [] (way-to-down m key (w .way-is)) in
+    let p : Good leaf-least (g .from) (g .upto) (view m (s .leaf)) = good-parts (g .is-good) in
+    let n : view m (s .leaf) .named ≡ names (s .slot) = view-names m (s .leaf) ∙ rw (w .slot-is) refl in
     record {
-      way-is = e;
+      seated = w;
       named = record {
-        inside = inside m f (way-to-counts m key e) (d .leaf) (g .in-use);
-        word = w .slot-is t;
-        few = rw (← length-names (d .slot), ← n) (p .most-named);
+        inside = inside m f (way-to-counts m key (w .way-is)) (s .leaf) (g .in-use);
+        word = w .slot-is;
+        few = rw (← length-names (s .slot), ← n) (p .most-named);
         low = rw (← n) (p .names-low);
       };
       names-are = n;
       rising-keys = p .keys-rise;
-      rank-is = w .rank-is t;
-      there-is = w .there-is t;
     }
 
 -- what stands there under the key
-module _ {m : List ℕ} {key : ℕ} {d : Descent} (a : AtLeaf m key d) where
-  keys-count : length (keys (view m (d .leaf) .records)) ≡ count (d .slot)
+module _ {m : List ℕ} {key : ℕ} {s : Seat} (a : AtLeaf m key s) where
+  keys-count : length (keys (view m (s .leaf) .records)) ≡ count (s .slot)
   keys-count =
-      keys-many m (d .leaf) ∙ ap count (sym (a .named .word))
+      keys-many m (s .leaf) ∙ ap count (sym (a .named .word))
 
-  pub rank-few : d .rank ≤ count (d .slot)
-  rank-few = omega (arith, a .rank-is, keys-count, below-length key (keys (view m (d .leaf) .records)))
+  pub rank-few : s .rank ≤ count (s .slot)
+  rank-few = omega (arith, a .seated .rank-is, keys-count, below-length key (keys (view m (s .leaf) .records)))
 
-  pub rank-there : d .there ≡ true → d .rank < count (d .slot)
+  pub rank-there : s .there ≡ true → s .rank < count (s .slot)
   rank-there t =
-      omega (arith, a .rank-is, keys-count, found-at key (keys (view m (d .leaf) .records)) (a .rising-keys) (sym (a .there-is) ∙ t) .0)
+      let ks = keys (view m (s .leaf) .records) in
+      omega (arith, a .seated .rank-is, keys-count, found-at key ks (a .rising-keys) (sym (a .seated .there-is) ∙ t) .0)
 
-  pub found-value : d .there ≡ true → {e v : ℕ} → e ≡ getD (names (d .slot)) (d .rank) 0 → v ≡ at m (value-at (d .leaf) e)
-      → find key (view m (d .leaf) .records) ≡ some v
+  pub found-value : s .there ≡ true → {e v : ℕ} → e ≡ getD (names (s .slot)) (s .rank) 0 → v ≡ at m (value-at (s .leaf) e)
+      → find key (view m (s .leaf) .records) ≡ some v
   found-value t e v =
-      let rs = view m (d .leaf) .records in
-      find-present key rs (a .rising-keys) (sym (a .there-is) ∙ t)
-      ∙ rw (← a .rank-is, named-at m (d .leaf) (d .slot) (a .named) (d .rank) (rank-there t) e .1, v) refl
+      let rs = view m (s .leaf) .records in
+      find-present key rs (a .rising-keys) (sym (a .seated .there-is) ∙ t)
+      ∙ rw (← a .seated .rank-is, named-at m (s .leaf) (s .slot) (a .named) (s .rank) (rank-there t) e .1, v) refl

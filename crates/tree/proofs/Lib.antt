@@ -3,6 +3,7 @@ pub mod Form
 pub mod Path
 pub mod Kids
 pub mod Ways
+pub mod Paths
 pub mod Leaves
 pub mod Lists
 pub mod Keys

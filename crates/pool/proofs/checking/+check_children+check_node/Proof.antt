@@ -13,7 +13,7 @@ use Rattle.node.specs.Looked.{Inside}
 use Rattle.node.proofs.layout.link.Reads as link
 use Rattle.node.proofs.layout.record_key.Reads as record-key
 use Rattle.node.proofs.layout.record_value.Reads as record-value
-use Rattle.node.proofs.look.look.Reads as look
+use Rattle.node.proofs.look.fits.Reads as fits
 use Rattle.node.proofs.slot.count.Reads as count
 use Rattle.node.proofs.slot.name.Reads as name
 use Rattle.words.proofs.pool.Pool.node_at.Reads as node-at
@@ -82,8 +82,8 @@ module _ (t : ℕ) where
     node-at.Learnt,
     leaf.Asked,
     leaf.Learnt,
-    look.Asked,
-    look.Learnt,
+    fits.Asked,
+    fits.Learnt,
     link.Asked,
     link.Learnt,
     children-below,
@@ -212,15 +212,15 @@ module _ (t : ℕ) where
 
   node-returns-3 : node-lts.Need-returns-3 of-node node-at-measure node.Post
   node-returns-3 c =
-      let d = c .before .before .before .before in
+      let d = c .before .before .before in
       let e = d .before .before .before in
       let a = start e .args in
       w.bad (a .kid) (a .seen) (e .before .before .before .mark .ensures) _ _ _ (e .if1 .left) (d .if2 .left)
-      (c .before .before .look .ensures) (c .if3 .taken)
+      (c .before .fits2 .ensures) (c .if3 .taken)
 
-  node-add-nodes : node-lts.Need-add-t18 of-node node-at-measure node.Post
+  node-add-nodes : node-lts.Need-add-t17 of-node node-at-measure node.Post
   node-add-nodes c =
-      let e = c .before .before .before .before .before .before .before .before .before in
+      let e = c .before .before .before .before .before .before .before .before in
       let a = start e .args in
       let n = w.counted (a .kid) (a .seen) (e .before .before .before .mark .ensures) (e .if1 .left) (start e .pre .1) in
       let most = n .nodes-in in
@@ -229,24 +229,24 @@ module _ (t : ℕ) where
   node-children-requires : node-lts.Need-check-children-requires of-node node-at-measure node.Post
   node-children-requires c κs =
       let g = c .before .before .before in
-      let d = g .before .before .before .before in
+      let d = g .before .before .before in
       let e = d .before .before .before in
       let a = start e .args in
-      let x = g .before .before .look .ensures in
+      let x = g .before .fits2 .ensures in
       let met = e .before .before .before .mark .ensures in
       let n = w.counted (a .kid) (a .seen) met (e .if1 .left) (start e .pre .1) in
-      (omega (arith, start e .pre .0), (n, w.slots (a .kid) (a .seen) met (e .if1 .left) x (g .if3 .left) (word (d .before))))
+      (omega (arith, start e .pre .0), (n, w.slots (a .kid) (a .seen) met (e .if1 .left) _ x (g .if3 .left) (word (d .before))))
 
   node-returns-4 : node-lts.Need-returns-4 of-node node-at-measure node.Post
   node-returns-4 c =
       let y = c .before .before in
       let l = y .before .before .before in
       let g = l .before in
-      let d = g .before .before .before .before in
+      let d = g .before .before .before in
       let e = d .before .before .before in
       let a = start e .args in
       w.down (a .kid) (a .seen) (e .before .before .before .mark .ensures) _ _ _ (e .if1 .left) (d .if2 .left)
-      (g .before .before .look .ensures) (g .if3 .left) (l .link .ensures) (y .check-children .ensures)
+      (g .before .fits2 .ensures) (g .if3 .left) (l .link .ensures) (y .check-children .ensures)
 
 pub +check-children+check-node-spec : {M : Type 1} → statement M
 +check-children+check-node-spec =
@@ -288,7 +288,7 @@ pub +check-children+check-node-spec : {M : Type 1} → statement M
     (λ c κs. (inside t (c .before .before .before .before), word t (c .before .before)))
     (λ c. search needs)
     (node-returns-3 t)
-    (λ c κs. inside t (c .before .before .before .before .before .before .before))
+    (λ c κs. inside t (c .before .before .before .before .before .before))
     (node-add-nodes t)
     (λ c. search needs)
     (node-children-requires t)

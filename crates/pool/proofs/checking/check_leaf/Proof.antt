@@ -6,11 +6,11 @@ use Rattle.node.proofs.Views.{view-length}
 use Rattle.pool.proofs.checking.check_leaf.Statement.{statement}
 use Rattle.pool.proofs.checking.check_leaf.Tie as tie
 
-look-requires : tie.Need-look-requires
-look-requires c κs = search needs
+fits-requires : tie.Need-fits-requires
+fits-requires c κs = search needs
 
 returns : tie.Need-returns
-returns c = simp (sym (c .before .before .look .ensures .good-is) ∙ not-true _ (c .if1 .taken))
+returns c = simp (sym (c .before .fits2 .ensures) ∙ not-true _ (c .if1 .taken))
 
 links-to-requires : tie.Need-links-to-requires
 links-to-requires c κs = search needs
@@ -18,24 +18,24 @@ links-to-requires c κs = search needs
 returns-2 : tie.Need-returns-2
 returns-2 c =
     let g = c .before .before in
-    let good = sym (g .before .before .look .ensures .good-is) ∙ not-false _ (g .if1 .left) in
+    let good = sym (g .before .fits2 .ensures) ∙ not-false _ (g .if1 .left) in
     simp (good, sym (c .before .links-to .ensures) ∙ not-true _ (c .if2 .taken))
 
-add-t10 : tie.Need-add-t10
-add-t10 c = search needs
+add-t9 : tie.Need-add-t9
+add-t9 c = search needs
 
 count-requires : tie.Need-count-requires
 count-requires c κs = search needs
 
-add-t12 : tie.Need-add-t12
-add-t12 c = search needs
+add-t11 : tie.Need-add-t11
+add-t11 c = search needs
 
 returns-3 : tie.Need-returns-3
 returns-3 c =
     let l = c .before .before .before in
     let g = l .before .before in
-    let s = g .before .before in
-    let good = sym (s .look .ensures .good-is) ∙ not-false _ (g .if1 .left) in
+    let s = g .before in
+    let good = sym (s .fits2 .ensures) ∙ not-false _ (g .if1 .left) in
     let linked = sym (l .before .links-to .ensures) ∙ not-false _ (l .if2 .left) in
     simp (good, linked, c .before .count .ensures, s .before .before .pre .word-is, view-length)
 
@@ -43,11 +43,11 @@ pub check-leaf-spec : {M : Type 1} → statement M
 check-leaf-spec =
     tie.close
     (tie.spec
-    look-requires
+    fits-requires
     returns
     links-to-requires
     returns-2
-    add-t10
+    add-t9
     count-requires
-    add-t12
+    add-t11
     returns-3)

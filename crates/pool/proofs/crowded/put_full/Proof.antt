@@ -2,7 +2,7 @@
 use Prim.Native.Nat.{ℕ, _-_, _<_}
 use mathlib.Core.Path.{_≡_}
 use native.Mathlib.Omega.{arith}
-use lib.ListN.{length, take}
+use lib.ListN.{take}
 use borrow.Author.Needs.{needs}
 use Rattle.words.specs.Event.{at}
 use Rattle.node.specs.View.{no-end}
@@ -10,40 +10,42 @@ use Rattle.tree.specs.Header.{height-of}
 use Rattle.tree.proofs.Form.{form, counts}
 use Rattle.change.specs.Put.{needed}
 use Rattle.pool.proofs.Planning.{quiet-answer, planned-answer}
-use Rattle.pool.proofs.Fulls.{counts-hold, path-met, to-split, full-crowded, full-high, full-split}
+use Rattle.pool.proofs.Fulls.{reaches, counts-hold, path-met, to-split, full-crowded, full-high, full-split}
 use Rattle.pool.proofs.crowded.put_full.Statement.{statement}
 use Rattle.pool.proofs.crowded.put_full.Tie as tie
 
 -- the nodes that are needed
 needed-is : (c : tie.After-nodes-needed)
-    → let s = c .before .before .before .before .before in
-    c .nodes-needed .result ≡ needed (s .args .pool .now) (take (height-of (s .args .pool .now)) (s .args .way .path))
+    → let q = c .before .before in
+    let m = q .before .before .before .args .pool .now in
+    c .nodes-needed .result ≡ needed m (take (height-of m) (q .path-to .result))
 needed-is c =
     let s = c .before .before .before .before .before in
     let none : height-of (s .args .pool .now) - height-of (s .args .pool .now) ≡ 0 = omega arith in
     rw none at (c .nodes-needed .ensures .0)
 
--- the path has eight places, and each word of the pool is one of 64 bits
-path-long : (s : tie.Start) → length (s .args .way .path) ≡ 8
-path-long s = s .pre .0 .way .eight-is (s .pre .0 .found)
-
+-- each word of the pool is one of 64 bits
 word-small : (c : tie.After-shared-slice-known) (i : ℕ) → at (c .before .args .pool .now) i < no-end
 word-small c i = omega (arith, c .shared-slice-known .given i)
+
+path-to-requires : tie.Need-path-to-requires
+path-to-requires c κs = let f = c .before .before .pre .0 in (f .admitted .form-is, reaches f)
 
 mul-height : tie.Need-mul-height
 mul-height c = search needs
 
 shared-slice-read-height : tie.Need-shared-slice-read-height
-shared-slice-read-height c = let h = form _ (c .before .before .before .before .pre .0 .form-is) .least in omega arith
+shared-slice-read-height c = let h = form _ (c .before .before .before .before .pre .0 .admitted .form-is) .least in omega arith
 
 nodes-needed-requires : tie.Need-nodes-needed-requires
 nodes-needed-requires c κs =
-    let k = c .before .before .before in
+    let q = c .before in
+    let k = q .before .before in
     let s = k .before in
     let none : height-of (s .args .pool .now) - height-of (s .args .pool .now) ≡ 0 = omega arith in (
       counts _ (counts-hold (s .pre .0)) .height .1,
       omega arith,
-      rw none (path-met (s .pre .0) (path-long s) (word-small k)),
+      rw none (path-met (s .pre .0) (q .path-to .ensures) (word-small k)),
     )
 
 mul-free : tie.Need-mul-free
@@ -51,7 +53,7 @@ mul-free c = search needs
 
 shared-slice-read-free : tie.Need-shared-slice-read-free
 shared-slice-read-free c =
-    let h = form _ (c .before .before .before .before .before .before .pre .0 .form-is) .least in
+    let h = form _ (c .before .before .before .before .before .before .pre .0 .admitted .form-is) .least in
     omega arith
 
 mul-free-2 : tie.Need-mul-free-2
@@ -59,7 +61,7 @@ mul-free-2 c = search needs
 
 shared-slice-read-free-2 : tie.Need-shared-slice-read-free-2
 shared-slice-read-free-2 c =
-    let h = form _ (c .before .before .before .before .before .before .before .pre .0 .form-is) .least in
+    let h = form _ (c .before .before .before .before .before .before .before .pre .0 .admitted .form-is) .least in
     omega arith
 
 sub-free : tie.Need-sub-free
@@ -74,8 +76,9 @@ returns : tie.Need-returns
 returns c =
     let t = c .before in
     let n = t .before .before .before in
-    let s = n .before .before .before .before .before in
-    quiet-answer _ _ _ (c .quiet .ensures) (full-crowded (s .pre .0) _ (path-long s) (rw (needed-is n) at (t .if1 .taken)))
+    let q = n .before .before in
+    let f = q .before .before .before .pre .0 in
+    quiet-answer _ _ _ (c .quiet .ensures) (full-crowded f (q .path-to .ensures) _ (rw (needed-is n) at (t .if1 .taken)))
 
 quiet-requires-2 : tie.Need-quiet-requires-2
 quiet-requires-2 c κs = search needs
@@ -84,17 +87,19 @@ returns-2 : tie.Need-returns-2
 returns-2 c =
     let t = c .before in
     let n = t .before .before .before .before in
-    let s = n .before .before .before .before .before in
+    let q = n .before .before in
+    let f = q .before .before .before .pre .0 in
     let room = rw (needed-is n) at (t .before .if1 .left) in
-    quiet-answer _ _ _ (c .quiet2 .ensures) (full-high (s .pre .0) _ (path-long s) room (rw (needed-is n) at (t .if2 .taken)))
+    quiet-answer _ _ _ (c .quiet2 .ensures) (full-high f (q .path-to .ensures) _ room (rw (needed-is n) at (t .if2 .taken)))
 
 split-put-requires : tie.Need-split-put-requires
 split-put-requires c κs =
     let t = c .before in
     let n = t .before .before .before .before in
-    let k = n .before .before .before .before in
+    let q = n .before .before in
+    let k = q .before .before in
     let s = k .before in
-    to-split (s .pre .0) (path-long s) (word-small k) (s .pre .1) (rw (needed-is n) at (t .if2 .left))
+    to-split (s .pre .0) (q .path-to .ensures) (word-small k) (s .pre .1) (rw (needed-is n) at (t .if2 .left))
     (rw (needed-is n) at (t .before .if1 .left))
 
 same-length : tie.Need-same-length
@@ -105,14 +110,16 @@ returns-3 c =
     let w = c .before .before in
     let t = w .before .before in
     let n = t .before .before .before .before in
-    let s = n .before .before .before .before .before in
+    let q = n .before .before in
+    let f = q .before .before .before .pre .0 in
     let room = rw (needed-is n) at (t .before .if1 .left) in
-    planned-answer _ _ _ (full-split (s .pre .0) _ (path-long s) room (rw (needed-is n) at (t .if2 .left))) (w .split-put .ensures)
+    planned-answer _ _ _ (full-split f (q .path-to .ensures) _ room (rw (needed-is n) at (t .if2 .left))) (w .split-put .ensures)
 
 pub put-full-spec : {M : Type 1} → statement M
 put-full-spec =
     tie.close
     (tie.spec
+    path-to-requires
     mul-height
     shared-slice-read-height
     nodes-needed-requires

@@ -6,24 +6,22 @@ use Prim.Native.Nat.{_≤_}
 use native.Mathlib.Omega.{arith}
 use borrow.Author.Tests.{not-true, not-false}
 use Rattle.words.specs.Tests.{within}
-use Rattle.words.specs.Event.{at}
 use Rattle.node.specs.Slot.{count}
-use Rattle.node.specs.View.{slot-at}
 use Rattle.node.specs.Looked.{Inside}
 use Rattle.node.proofs.Views.{good-sound}
 use Rattle.tree.specs.Header.{used-of, counts-agree}
 use Rattle.tree.specs.Descended.{Named}
 use Rattle.tree.proofs.Form.{form, counts}
-use Rattle.tree.proofs.Ways.{inside, On, bad-header, at-root, bad-number, bad-node, leaf-is, good-node, named}
-use Rattle.tree.proofs.Ways.{few-before, go-down}
+use Rattle.tree.proofs.Ways.{inside, On, bad-header, at-root, bad-number, bad-node, too-high, leaf-is, good-node, named}
+use Rattle.tree.proofs.Ways.{few-before, some-covered, go-down}
 use Rattle.tree.proofs.descend.descend.Statement.{statement}
 use Rattle.tree.proofs.descend.descend.Tie as tie
 
 abbrev Inv-loop : tie.InvT-loop
-Inv-loop pool key used node₀ left₀ cover₀ parent₀ path₀ node left cover parent path = On pool key node left cover parent path
+Inv-loop pool key used node₀ left₀ parent₀ from₀ top₀ node left parent from top = On pool key node left parent from top
 
 abbrev μ-loop : tie.MeasureT-loop
-μ-loop pool key used node₀ left₀ cover₀ parent₀ path₀ node left cover parent path = left
+μ-loop pool key used node₀ left₀ parent₀ from₀ top₀ node left parent from top = left
 
 -- the header agreed
 counts-ok : (c : tie.Else1 Inv-loop μ-loop) → counts-agree (c .before .before .before .args .pool .now) ≡ true
@@ -42,38 +40,28 @@ lies-inside c =
     let e = c .before .before .before .before .before .before in
     inside _ (e .before .before .before .pre) (counts-ok e) _ (used-ok c)
 
-slot-read : (c : tie.After-shared-slice-known5 Inv-loop μ-loop)
-    → let l = c .before .before .before .before in
-    let m = l .before .before .before .before .before .before .before .args .pool .now in
-    at m (c .before .node-at .result) ≡ at m (slot-at (l .loop .node))
-slot-read c = rw (c .before .node-at .ensures)
-
 -- the node is good: it has a child for the key
 child-ok : (c : tie.Else4 Inv-loop μ-loop)
-    → let a = c .before .before .before in
-    let l = a .before .before .before .before .before in
+    → let k = c .before .before .before .before in
+    let s = k .before in
+    let l = s .before .before .before in
     let m = l .before .before .before .before .before .before .before .args .pool .now in
-    let w = at m (a .before .before .node-at .result) in
-    Named m (l .loop .node) w × (a .look .result .after ≤ count w)
+    Named m (l .loop .node) (s .slot-word .result) × (k .look .result .after ≤ count (s .slot-word .result))
 child-ok c =
-    let a = c .before .before .before in
-    let n = a .before .before .before in
-    let good = not-false _ (c .before .if3 .left) in
-    let o = n .before .before .loop .inv in (
-      named _ _ o (used-ok n) (a .look .ensures) good (lies-inside n) (slot-read (a .before)),
-      few-before _ _ o (used-ok n) (a .look .ensures) good (slot-read (a .before)),
+    let k = c .before .before .before .before in
+    let s = k .before in
+    let n = s .before in
+    let o = n .before .before .loop .inv in
+    let good = not-false _ (c .before .before .if3 .left) in (
+      named _ _ o (used-ok n) (k .look .ensures) good (c .if4 .left) (lies-inside n) (s .slot-word .ensures),
+      few-before _ _ o (used-ok n) (k .look .ensures) good (c .if4 .left) (s .slot-word .ensures),
     )
 
 counts-agree-requires : tie.Need-counts-agree-requires Inv-loop μ-loop
 counts-agree-requires c κs = form _ (c .before .pre) .least
 
-fault-requires : tie.Need-fault-requires Inv-loop μ-loop
-fault-requires c κs = search needs
-
 returns : tie.Need-returns Inv-loop μ-loop
-returns c =
-    let a = c .before .before in
-    bad-header _ _ (sym (a .counts-agree .ensures) ∙ not-true _ (c .before .if1 .taken)) _ (c .fault .ensures .0) (c .fault .ensures .1)
+returns c = bad-header _ _ (sym (c .before .counts-agree .ensures) ∙ not-true _ (c .if1 .taken))
 
 mul-used : tie.Need-mul-used Inv-loop μ-loop
 mul-used c = search needs
@@ -97,96 +85,97 @@ sub-left : tie.Need-sub-left Inv-loop μ-loop
 sub-left c = let h = counts _ (counts-ok (c .before .before .before)) .height .0 in omega arith
 
 loop-holds : tie.Need-loop-holds Inv-loop μ-loop
-loop-holds c = at-root _ _ (counts-ok (c .before .before .before))
+loop-holds c =
+    let e = c .before .before .before in
+    at-root _ _ (e .before .before .before .fits .key .fits) (counts-ok e)
 
 in-use-requires : tie.Need-in-use-requires Inv-loop μ-loop
 in-use-requires c κs = search needs
 
-fault-requires-2 : tie.Need-fault-requires-2 Inv-loop μ-loop
-fault-requires-2 c κs = search needs
-
 returns-2 : tie.Need-returns-2 Inv-loop μ-loop
 returns-2 c =
-    let n = c .before .before in
-    bad-number _ _ (n .before .loop .inv) (sym (n .in-use .ensures) ∙ not-true _ (c .before .if2 .taken)) _ (c .fault2 .ensures .0)
-    (c .fault2 .ensures .1)
+    let n = c .before in
+    bad-number _ _ (n .before .loop .inv) (sym (n .in-use .ensures) ∙ not-true _ (c .if2 .taken))
 
-node-at-requires : tie.Need-node-at-requires Inv-loop μ-loop
-node-at-requires c κs = lies-inside c .most
-
-mul-slot : tie.Need-mul-slot Inv-loop μ-loop
-mul-slot c = let h = lies-inside (c .before) in search needs
-
-shared-slice-read-slot : tie.Need-shared-slice-read-slot Inv-loop μ-loop
-shared-slice-read-slot c = let h = lies-inside (c .before .before) in let e = c .before .node-at .ensures in omega arith
+slot-word-requires : tie.Need-slot-word-requires Inv-loop μ-loop
+slot-word-requires c κs = lies-inside c
 
 cast-look : tie.Need-cast-look Inv-loop μ-loop
 cast-look c = search needs
 
 look-requires : tie.Need-look-requires Inv-loop μ-loop
-look-requires c κs = (lies-inside (c .before .before), slot-read c)
-
-fault-requires-3 : tie.Need-fault-requires-3 Inv-loop μ-loop
-fault-requires-3 c κs = search needs
+look-requires c κs = (lies-inside (c .before), c .slot-word .ensures)
 
 returns-3 : tie.Need-returns-3 Inv-loop μ-loop
 returns-3 c =
-    let l = c .before .before .before in
-    let n = l .before .before .before in
-    bad-node _ _ (n .before .before .loop .inv) (used-ok n) (l .look .ensures) (not-true _ (c .before .if3 .taken)) _
-    (c .fault3 .ensures .0) (c .fault3 .ensures .1)
-
-mul-path : tie.Need-mul-path Inv-loop μ-loop
-mul-path c = search needs
-
-array-write-path : tie.Need-array-write-path Inv-loop μ-loop
-array-write-path c = search needs
-
-place-requires : tie.Need-place-requires Inv-loop μ-loop
-place-requires c κs =
-    let l = c .before .before .before in
-    let n = l .before .before .before in
-    let good = not-false _ (c .before .if3 .left) in (
-      (
-        lies-inside n,
-        slot-read (l .before),
-        good-sound _ (good-node _ _ (n .before .before .loop .inv) (used-ok n) (l .look .ensures) good),
-      ),
-      l .look .ensures .after-is good,
-    )
-
-at-leaf-requires : tie.Need-at-leaf-requires Inv-loop μ-loop
-at-leaf-requires c κs = search needs
+    let k = c .before .before in
+    let n = k .before .before in
+    bad-node _ _ (n .before .before .loop .inv) (used-ok n) (k .look .ensures) (not-true _ (c .if3 .taken))
 
 returns-4 : tie.Need-returns-4 Inv-loop μ-loop
 returns-4 c =
-    let t = c .before .before in
-    let l = t .before .before .before in
-    let n = l .before .before .before in
-    let good = not-false _ (t .before .if3 .left) in
-    leaf-is _ _ (n .before .before .loop .inv) (used-ok n) (l .look .ensures) good (t .if4 .taken)
-    (slot-read (l .before)) (c .before .place .ensures) _ (c .at-leaf .ensures)
+    let e = c .before .before in
+    let k = e .before .before in
+    let n = k .before .before in
+    too-high _ _ (n .before .before .loop .inv) (used-ok n) (k .look .ensures) (not-false _ (e .if3 .left)) (c .if4 .taken)
+
+place-requires : tie.Need-place-requires Inv-loop μ-loop
+place-requires c κs =
+    let f = c .before in
+    let e = f .before .before in
+    let k = e .before .before in
+    let s = k .before in
+    let n = s .before in
+    let good = not-false _ (e .if3 .left) in
+    let g = good-node _ _ (n .before .before .loop .inv) (used-ok n) (k .look .ensures) good (f .if4 .left) in
+    ((lies-inside n, s .slot-word .ensures, good-sound _ g), k .look .ensures .after-is good)
+
+returns-5 : tie.Need-returns-5 Inv-loop μ-loop
+returns-5 c =
+    let t = c .before in
+    let f = t .before in
+    let e = f .before .before in
+    let k = e .before .before in
+    let s = k .before in
+    let n = s .before in
+    leaf-is _ _ (n .before .before .loop .inv) (used-ok n) (k .look .ensures) (not-false _ (e .if3 .left)) (f .if4 .left)
+    (t .if5 .taken) (s .slot-word .ensures) (c .place .ensures)
 
 child-requires : tie.Need-child-requires Inv-loop μ-loop
-child-requires c κs = child-ok c
+child-requires c κs = child-ok (c .before)
 
-child-cover-requires : tie.Need-child-cover-requires Inv-loop μ-loop
-child-cover-requires c κs = child-ok (c .before)
+first-key-requires : tie.Need-first-key-requires Inv-loop μ-loop
+first-key-requires c κs = child-ok (c .before .before)
+
+last-key-requires : tie.Need-last-key-requires Inv-loop μ-loop
+last-key-requires c κs =
+    let f = c .before .before .before in
+    let e = f .before .before in
+    let k = e .before .before in
+    let n = k .before .before in
+    let h = child-ok f in (
+      h .0,
+      h .1,
+      some-covered _ _ (n .before .before .loop .inv) (used-ok n) (k .look .ensures) (not-false _ (e .if3 .left)) (f .if4 .left) refl,
+    )
 
 sub-left-2 : tie.Need-sub-left-2 Inv-loop μ-loop
-sub-left-2 c = search needs
+sub-left-2 c = let h = c .before .before .before .if5 .left in omega arith
 
 loop-less : tie.Need-loop-less Inv-loop μ-loop
-loop-less c = search needs
+loop-less c = let h = c .before .before .before .if5 .left in omega arith
 
 loop-again : tie.Need-loop-again Inv-loop μ-loop
 loop-again c =
-    let e = c .before .before in
-    let l = e .before .before .before in
-    let n = l .before .before .before in
-    let good = not-false _ (e .before .if3 .left) in
-    go-down _ _ (n .before .before .loop .inv) (used-ok n) (l .look .ensures) good
-    (e .if4 .left) _ refl (c .before .child .ensures) (c .child-cover .ensures)
+    let i = c .before in
+    let d = i .before in
+    let t = d .before in
+    let f = t .before in
+    let e = f .before .before in
+    let k = e .before .before in
+    let n = k .before .before in
+    go-down _ _ (n .before .before .loop .inv) (used-ok n) (k .look .ensures) (not-false _ (e .if3 .left)) (f .if4 .left)
+    (t .if5 .left) refl (d .child .ensures _ _) (i .first-key .ensures _) (c .last-key .ensures _)
 
 pub descend-spec : {M : Type 1} → statement M
 descend-spec =
@@ -195,7 +184,6 @@ descend-spec =
     Inv-loop
     μ-loop
     counts-agree-requires
-    fault-requires
     returns
     mul-used
     shared-slice-read-used
@@ -206,22 +194,17 @@ descend-spec =
     sub-left
     loop-holds
     in-use-requires
-    fault-requires-2
     returns-2
-    node-at-requires
-    mul-slot
-    shared-slice-read-slot
+    slot-word-requires
     cast-look
     look-requires
-    fault-requires-3
     returns-3
-    mul-path
-    array-write-path
-    place-requires
-    at-leaf-requires
     returns-4
+    place-requires
+    returns-5
     child-requires
-    child-cover-requires
+    first-key-requires
+    last-key-requires
     sub-left-2
     loop-less
     loop-again)

@@ -3,8 +3,8 @@ use borrow.Author.Needs.{needs}
 use mathlib.Core.Path.{_∙_}
 use native.Mathlib.Omega.{arith}
 use Rattle.tree.proofs.Kids.{name-low, first-child, later-child}
-use Rattle.tree.proofs.descend.child.Statement.{statement}
-use Rattle.tree.proofs.descend.child.Tie as tie
+use Rattle.tree.proofs.child.child.Statement.{statement}
+use Rattle.tree.proofs.child.child.Tie as tie
 
 link-requires : tie.Need-link-requires
 link-requires c κs = search needs
@@ -12,7 +12,7 @@ link-requires c κs = search needs
 returns : tie.Need-returns
 returns c =
     let s = c .before .before .before in
-    c .link .ensures ∙ first-child _ _ _ (s .pre .0) (s .args .cover) _ (c .before .if1 .taken)
+    λ lo hi. c .link .ensures ∙ first-child _ _ _ (s .pre .0) lo hi _ (c .before .if1 .taken)
 
 sub-name : tie.Need-sub-name
 sub-name c = search needs
@@ -29,7 +29,7 @@ returns-2 : tie.Need-returns-2
 returns-2 c =
     let n = c .before in
     let s = n .before .before .before in
-    later-child _ _ _ (s .pre .0) (s .args .cover) _ (n .before .if1 .left) (s .pre .1) (n .name .ensures) (c .record-value .ensures)
+    λ lo hi. later-child _ _ _ (s .pre .0) lo hi _ (n .before .if1 .left) (s .pre .1) (n .name .ensures) (c .record-value .ensures)
 
 pub child-spec : {M : Type 1} → statement M
 child-spec =
