@@ -83,7 +83,7 @@ pub fn look(pool: &[u64], k: u64, w: u64, least: u64, from: u64, key: u64) -> Lo
     }
 }
 
-// Whether node k, whose slot word is w, is good.
+// Whether node k, whose slot word is w, is good. The key that it is looked at for plays no part.
 pub fn fits(pool: &[u64], k: u64, w: u64, least: u64, cover: Cover) -> bool
     requires { ⌜ Inside (now pool) k × (w ≡ at (now pool) (v.slot-at k)) ⌝ }
     ensures { λ r. ⌜ r ≡ v.good least (cover .lo) (end-of cover) (v.view (now (pool .entry)) k) ⌝ }

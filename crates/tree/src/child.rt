@@ -21,7 +21,7 @@ pub fn child(pool: &[u64], k: u64, w: u64, j: u64) -> u64
     record_value(pool, k, name(w, j - 1))
 }
 
-// The first key that the child covers, if the node covers keys from one on.
+// The first key that this child covers, where the first of the node is `from`.
 pub fn first_key(pool: &[u64], k: u64, w: u64, j: u64, from: u64) -> u64
     requires { ⌜ Named (now pool) k w × (j ≤ s.count w) ⌝ }
     ensures { λ r. ⌜ ((hi : ℕ) → r ≡ kid-after (now (pool .entry)) (kid k from hi) j .from) ⌝ }
@@ -32,7 +32,7 @@ pub fn first_key(pool: &[u64], k: u64, w: u64, j: u64, from: u64) -> u64
     record_key(pool, k, name(w, j - 1))
 }
 
-// The last key that the child covers, if the node covers keys as far as a top.
+// The last key that this child covers, where the last of the node is `top`.
 pub fn last_key(pool: &[u64], k: u64, w: u64, j: u64, top: u64) -> u64
     requires { ⌜ Named (now pool) k w × (j ≤ s.count w) × (1 ≤ kid-after (now pool) (kid k 0 (suc top)) j .upto) ⌝ }
     ensures { λ r. ⌜ ((lo : ℕ) → suc r ≡ kid-after (now (pool .entry)) (kid k lo (suc top)) j .upto) ⌝ }

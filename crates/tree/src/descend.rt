@@ -27,6 +27,9 @@ pub enum Descent {
     Leaf(Seat),
 }
 
+// The root's cover has no ends: its last key is the greatest word.
+const GREATEST: u64 = 0xffff_ffff_ffff_ffff;
+
 // Whether a number is that of a node in use.
 fn in_use(used: u64, node: u64) -> bool
     ensures { λ r. ⌜ r ≡ within 1 node used ⌝ }
@@ -37,7 +40,7 @@ fn in_use(used: u64, node: u64) -> bool
     node <= used
 }
 
-// The way down to the leaf of a key. A node covers the keys from one on as far as a top, and the key is one of them.
+// The way down to the leaf of a key. Each node covers the keys `from` to `top`, both among them, and the key is one of these.
 pub fn descend(pool: &[u64], key: u64) -> Descent
     requires { ⌜ form-agrees (now pool) ≡ true ⌝ }
     ensures { λ r. ⌜ Descended (now (pool .entry)) key r ⌝ }
@@ -50,7 +53,7 @@ pub fn descend(pool: &[u64], key: u64) -> Descent
     let mut left = pool[Pool::HEIGHT_AT as usize] - 1;
     let mut parent: u64 = 0;
     let mut from: u64 = 0;
-    let mut top: u64 = 0xffff_ffff_ffff_ffff;
+    let mut top = GREATEST;
     loop {
         if !in_use(used, node) {
             return Descent::Fault(parent);
