@@ -1,12 +1,9 @@
 /* PMDK's own example of a tree, btree_map, as Debian's package ships its source. A value is kept in the offset of an object's name, which
  * the map never follows; 0 is therefore no value. The map has no replace: an insert of a present key makes a second record. */
-#include "peer.h"
+#include "pmdk.h"
 #include <btree_map.h>
-#include <stdio.h>
 #include <stdlib.h>
 
-#define POOL_BYTES ((size_t)256 << 20)
-#define FOLDER_BYTES 512
 #define SOME_POOL 1
 
 POBJ_LAYOUT_BEGIN(map);
@@ -22,13 +19,6 @@ struct store {
 	TOID(struct btree_map) map;
 };
 
-static const char *version(void)
-{
-	static char text[32];
-	snprintf(text, sizeof text, "libpmemobj %d.%d", PMEMOBJ_MAJOR_VERSION, PMEMOBJ_MINOR_VERSION);
-	return text;
-}
-
 static void *open_store(const char *folder, int setting)
 {
 	char path[FOLDER_BYTES];
@@ -43,16 +33,6 @@ static void *open_store(const char *folder, int setting)
 		return NULL;
 	store->map = D_RO(top)->map;
 	return store;
-}
-
-static void begin(void *opened, int writes)
-{
-	(void)opened, (void)writes;
-}
-
-static void end(void *opened)
-{
-	(void)opened;
 }
 
 static int get(void *opened, uint64_t key, uint64_t *value)

@@ -1,13 +1,9 @@
 /* A tree over libpmemobj, as a user of that library writes it: sorted nodes of seven records, 01's rule of splits, no node given back, and
  * a transaction a change. Nothing is checked on the way down. */
-#include "peer.h"
-#include <libpmemobj.h>
-#include <stdio.h>
+#include "pmdk.h"
 #include <stdlib.h>
 #include <string.h>
 
-#define POOL_BYTES ((size_t)256 << 20)
-#define FOLDER_BYTES 512
 #define RECORDS 7
 #define LOWER 4
 #define HEIGHT_MOST 16
@@ -50,13 +46,6 @@ struct rising {
 	TOID(struct node) kid;
 };
 
-static const char *version(void)
-{
-	static char text[32];
-	snprintf(text, sizeof text, "libpmemobj %d.%d", PMEMOBJ_MAJOR_VERSION, PMEMOBJ_MINOR_VERSION);
-	return text;
-}
-
 static void *open_store(const char *folder, int setting)
 {
 	char path[FOLDER_BYTES];
@@ -76,16 +65,6 @@ static void *open_store(const char *folder, int setting)
 		failed = 1;
 	} TX_END
 	return failed ? NULL : store;
-}
-
-static void begin(void *opened, int writes)
-{
-	(void)opened, (void)writes;
-}
-
-static void end(void *opened)
-{
-	(void)opened;
 }
 
 static unsigned place_of(const struct node *node, uint64_t key)
