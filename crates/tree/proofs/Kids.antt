@@ -14,8 +14,11 @@ use Rattle.node.specs.Slot.{count, names, entries}
 use Rattle.node.specs.View.{Record, view, keys, entry, slot-at, link-at, key-at, value-at}
 use Rattle.node.proofs.Every.{below-at}
 use Rattle.node.proofs.Slots.{length-names}
-use Rattle.node.proofs.Views.{view-length, record-at}
-use Rattle.tree.specs.Kids.{Kid, kid, kids-from, pick-from}
+use Rattle.node.specs.Looked.{Inside, Looked}
+use Rattle.node.specs.declared.cover.Look.{Look}
+use Rattle.node.proofs.Ranks.{upto-length}
+use Rattle.node.proofs.Views.{Good, view-length, view-names, record-at, keys-many}
+use Rattle.tree.specs.Kids.{Kid, kid, kids-from, pick-from, pick}
 use Rattle.tree.specs.Descended.{Named, kid-after}
 
 module _ (lo hi : ℕ) (d : Kid) where
@@ -116,7 +119,26 @@ pick-is key hi d l lo (r ∷ rs) = go (ltb key (r .0)) (pick-is key hi d (r .1) 
     go true further = refl
     go false further = further
 
--- and the child covers the key, if the node does
+-- what looking at a good node tells of its children
+pub good-named : {m : List ℕ} {k w least lo hi : ℕ} → Good least lo hi (view m k) → Inside m k → w ≡ at m (slot-at k) → Named m k w
+good-named {m} {k} g i w = record {
+  inside = i;
+  word = w;
+  few = rw (w, ← length-names (at m (slot-at k)), ← view-names m k) (g .most-named);
+  low = rw (w, ← view-names m k) (g .names-low);
+}
+
+module _ (m : List ℕ) (k : ℕ) {least from key : ℕ} {seen : Look} (l : Looked least from key (view m k) seen) (t : seen .good ≡ true) where
+  -- before the child that covers the key there are at most the keys that the node has
+  pub few-before : {w : ℕ} → w ≡ at m (slot-at k) → seen .after ≤ count w
+  few-before w = rw (w, l .after-is t, ← keys-many m k) (upto-length key (keys (view m k .records)))
+
+  pub picked : (lo hi : ℕ) → kid-after m (kid k lo hi) (seen .after) ≡ pick key (kid k lo hi) (view m k)
+  picked lo hi =
+      let u = view m k in
+      rw (l .after-is t) (sym (pick-is key hi (kid k lo hi) (u .link) lo (u .records)))
+
+-- a child that is picked covers the key, if the node does
 pub pick-covers : (key l lo hi : ℕ) (rs : List Record) → lo ≤ key → key < hi
     → (pick-from key l lo hi rs .from ≤ key) × (key < pick-from key l lo hi rs .upto)
 unfolding pick-from

@@ -12,7 +12,6 @@ use Rattle.node.specs.Lists.{rising}
 use Rattle.node.specs.Slot.{count, names}
 use Rattle.node.specs.View.{view, keys, good, value-at}
 use Rattle.node.proofs.Ranks.{found-at, below-length}
-use Rattle.node.proofs.Slots.{length-names}
 use Rattle.node.proofs.Views.{Good, good-parts, view-names, keys-many}
 use Rattle.tree.specs.declared.descend.Seat.{Seat}
 use Rattle.tree.specs.Header.{used-of, form-agrees}
@@ -22,7 +21,7 @@ use Rattle.tree.specs.Map.{find}
 use Rattle.tree.specs.Descended.{Named, Seated}
 use Rattle.tree.proofs.Find.{find-present}
 use Rattle.tree.proofs.Path.{Passed, passed, way-to-counts, way-to-down}
-use Rattle.tree.proofs.Kids.{named-at}
+use Rattle.tree.proofs.Kids.{named-at, good-named}
 use Rattle.tree.proofs.Ways.{inside}
 
 -- node k is in use, and good under some cover
@@ -61,12 +60,7 @@ at-leaf m key s f w =
     let n : view m (s .leaf) .named ≡ names (s .slot) = view-names m (s .leaf) ∙ rw (w .slot-is) refl in
     record {
       seated = w;
-      named = record {
-        inside = inside m f (way-to-counts m key (w .way-is)) (s .leaf) (g .in-use);
-        word = w .slot-is;
-        few = rw (← length-names (s .slot), ← n) (p .most-named);
-        low = rw (← n) (p .names-low);
-      };
+      named = good-named p (inside m f (way-to-counts m key (w .way-is)) (s .leaf) (g .in-use)) (w .slot-is);
       names-are = n;
       rising-keys = p .keys-rise;
     }

@@ -8,23 +8,19 @@ use native.Mathlib.Omega.{arith}
 use lib.ListN.{length, set, take, drop, replicate, length-set}
 use lib.Seq.{drop-cons, getD-set-same, drop-set-lt}
 use Rattle.words.specs.Tests.{within}
-use Rattle.words.specs.Event.{at}
-use Rattle.node.specs.Slot.{count}
-use Rattle.node.specs.View.{View, view, keys, good, slot-at, no-end}
+use Rattle.node.specs.View.{View, view, keys, good, no-end}
 use Rattle.node.specs.Looked.{Inside, Looked}
 use Rattle.node.specs.declared.cover.Look.{Look}
 use Rattle.node.proofs.Every.{covered-more}
-use Rattle.node.proofs.Slots.{length-names}
-use Rattle.node.proofs.Ranks.{upto-length}
-use Rattle.node.proofs.Views.{Good, good-parts, parts-good, view-names, keys-many}
+use Rattle.node.proofs.Views.{Good, good-parts, parts-good}
 use Rattle.node.proofs.Ends.{seen-good}
 use Rattle.tree.specs.Header.{used-of, root-of, form-agrees, counts-agree}
 use Rattle.tree.specs.Kids.{Kid, kid, pick, leaf-least, inner-least, fits}
 use Rattle.tree.specs.Path.{Way, leaf, parent, way, levels-above}
-use Rattle.tree.specs.Descended.{Named, Reaches, Pathed, kid-after}
+use Rattle.tree.specs.Descended.{Reaches, Pathed, kid-after}
 use Rattle.tree.proofs.Form.{counts}
 use Rattle.tree.proofs.Path.{Passed, passed, way-to-counts, way-to-down}
-use Rattle.tree.proofs.Kids.{pick-is}
+use Rattle.tree.proofs.Kids.{picked}
 use Rattle.tree.proofs.Ways.{inside}
 
 -- the nodes above the level that has `left` levels below it, nearest first: the path has the node of each level at its number
@@ -114,36 +110,22 @@ module _ (m : List ℕ) (key : ℕ) (r : Reaches m key) where
           ap (λ (n : ℕ). way n m key here (above m left path)) (sym pred) ∙ o .rest in
           step (left - 1) here (above m left path) e
 
-      good-here : Good inner-least (o .from) (o .upto) (view m node)
+      pub good-here : Good inner-least (o .from) (o .upto) (view m node)
       good-here = good-parts (on-way .second)
 
       pub lies-inside : form-agrees m ≡ true → Inside m node
       lies-inside f = inside m f header-ok node (on-way .first)
 
-      pub named : form-agrees m ≡ true → {w : ℕ} → w ≡ at m (slot-at node) → Named m node w
-      named f w = record {
-        inside = lies-inside f;
-        word = w;
-        few = rw (w, ← length-names (at m (slot-at node)), ← view-names m node) (good-here .most-named);
-        low = rw (w, ← view-names m node) (good-here .names-low);
-      }
-
       module _ {seen : Look} (l : Looked 0 0 key (view m node) seen) where
-        found-good : seen .good ≡ true
+        pub found-good : seen .good ≡ true
         found-good = seen-good l (o .upto) (widened good-here)
-
-        pub few-before : {w : ℕ} → w ≡ at m (slot-at node) → seen .after ≤ count w
-        few-before w = rw (w, l .after-is found-good, ← keys-many m node) (upto-length key (keys (view m node .records)))
 
         pub go-down : {k : ℕ} → ((lo hi : ℕ) → k ≡ kid-after m (kid node lo hi) (seen .after) .number)
             → On k (left - 1) (set path left node)
         go-down {k} n =
-            let u = view m node in
             let next = above-next m left node path (o .most) (omega (arith, o .low, o .eight)) (omega arith) in
-            let c = pick key here u in
-            let j : kid-after m here (seen .after) ≡ c =
-            rw (l .after-is found-good) (sym (pick-is key (o .upto) here (u .link) (o .from) (u .records))) in
-            let is : kid k (c .from) (c .upto) ≡ c = rw (n (o .from) (o .upto), j) refl in
+            let c = pick key here (view m node) in
+            let is : kid k (c .from) (c .upto) ≡ c = rw (n (o .from) (o .upto), picked m node l found-good (o .from) (o .upto)) refl in
             record {
               most = omega (arith, o .most);
               low = omega (arith, o .low);

@@ -11,21 +11,18 @@ use borrow.Author.Tests.{lt-ltb, le-leb, lt-leb}
 use Rattle.words.specs.Tests.{within}
 use Rattle.words.specs.Event.{at}
 use Rattle.words.proofs.Tests.{within-says}
-use Rattle.node.specs.Slot.{count}
-use Rattle.node.specs.View.{view, keys, good, slot-at, no-end}
+use Rattle.node.specs.View.{view, good, slot-at, no-end}
 use Rattle.node.specs.Looked.{Inside, Looked, Placed}
 use Rattle.node.specs.declared.cover.Look.{Look}
 use Rattle.node.specs.declared.cover.Place.{Place}
-use Rattle.node.proofs.Slots.{length-names}
-use Rattle.node.proofs.Ranks.{upto-length}
-use Rattle.node.proofs.Views.{Good, good-parts, view-names, keys-many}
+use Rattle.node.proofs.Views.{Good, good-parts}
 use Rattle.node.proofs.Ends.{not-good, kept}
 use Rattle.tree.specs.Header.{used-of, root-of, capacity-of, counts-agree, form-agrees}
 use Rattle.tree.specs.Kids.{Kid, kid, pick}
 use Rattle.tree.specs.Path.{failed, leaf, parent, way, levels-above, way-to}
-use Rattle.tree.specs.Descended.{Named, Seated, kid-after}
+use Rattle.tree.specs.Descended.{Seated, kid-after}
 use Rattle.tree.proofs.Form.{Form, Counts, form, counts}
-use Rattle.tree.proofs.Kids.{pick-is, pick-covers}
+use Rattle.tree.proofs.Kids.{picked, pick-covers}
 
 -- a node in use lies inside the memory
 pub inside : (m : List ℕ) → form-agrees m ≡ true → counts-agree m ≡ true → (k : ℕ) → within 1 k (used-of m) ≡ true → Inside m k
@@ -127,36 +124,19 @@ module _ (m : List ℕ) (key : ℕ) where
               let e : way-to m key ≡ leaf node (o .up) = o .rest ∙ fitting-leaf m key here (o .up) used left z fitting in
               record { way-is = rw e; slot-is = w; rank-is = r .rank-is; there-is = r .there-is }
 
-          pub named : Inside m node → {w : ℕ} → w ≡ at m (slot-at node) → Named m node w
-          named i w = record {
-            inside = i;
-            word = w;
-            few = rw (w, ← length-names (at m (slot-at node)), ← view-names m node) (good-node .most-named);
-            low = rw (w, ← view-names m node) (good-node .names-low);
-          }
-
-          -- there are as many keys before it as the node has, at most
-          pub few-before : {w : ℕ} → w ≡ at m (slot-at node) → seen .after ≤ count w
-          few-before w = rw (w, l .after-is t, ← keys-many m node) (upto-length key (keys (view m node .records)))
-
           -- the child that covers the key
-          picked : (lo : ℕ) {j : ℕ} → j ≡ seen .after
-              → kid-after m (kid node lo (suc top)) j ≡ pick key (kid node lo (suc top)) (view m node)
-          picked lo e =
-              let u = view m node in
-              rw (e ∙ l .after-is t) (sym (pick-is key (suc top) (kid node lo (suc top)) (u .link) lo (u .records)))
-
-          pub some-covered : {j : ℕ} → j ≡ seen .after → 1 ≤ kid-after m (kid node 0 (suc top)) j .upto
-          some-covered e =
+          pub some-covered : 1 ≤ kid-after m (kid node 0 (suc top)) (seen .after) .upto
+          some-covered =
               let u = view m node in
               let c = pick-covers key (u .link) 0 (suc top) (u .records) (omega arith) (omega (arith, o .high)) in
-              rw (picked 0 e) (omega (arith, c .1))
+              rw (picked m node l t 0 (suc top)) (omega (arith, c .1))
 
-          pub go-down : (left ≡ 0 → ⊥) → {j k x y : ℕ} → j ≡ seen .after → k ≡ kid-after m here j .number
-              → x ≡ kid-after m here j .from → suc y ≡ kid-after m here j .upto → On m key k (left - 1) node x y
-          go-down z {k = k} {x = x} {y = y} e n a b =
+          pub go-down : (left ≡ 0 → ⊥) → {k x y : ℕ} → k ≡ kid-after m here (seen .after) .number
+              → x ≡ kid-after m here (seen .after) .from → suc y ≡ kid-after m here (seen .after) .upto
+              → On m key k (left - 1) node x y
+          go-down z {k = k} {x = x} {y = y} n a b =
               let u = view m node in
-              let is : pick key here u ≡ kid k x (suc y) = sym (picked from e) ∙ rw (n, a, b) refl in
+              let is : pick key here u ≡ kid k x (suc y) = sym (picked m node l t from (suc top)) ∙ rw (n, a, b) refl in
               let c = rw is at (pick-covers key (u .link) from (suc top) (u .records) (o .low) (omega (arith, o .high))) in
               record {
                 up = node ∷ o .up;

@@ -1,6 +1,6 @@
 -- `tree::descend` meets its contract: a node a turn.
 use borrow.Author.Needs.{needs}
-use mathlib.Core.Path.{_≡_, _∙_, sym, refl}
+use mathlib.Core.Path.{_≡_, _∙_, sym}
 use mathlib.Core.Bool.{true}
 use Prim.Native.Nat.{_≤_}
 use native.Mathlib.Omega.{arith}
@@ -12,8 +12,9 @@ use Rattle.node.proofs.Views.{good-sound}
 use Rattle.tree.specs.Header.{used-of, counts-agree}
 use Rattle.tree.specs.Descended.{Named}
 use Rattle.tree.proofs.Form.{form, counts}
-use Rattle.tree.proofs.Ways.{inside, On, bad-header, at-root, bad-number, bad-node, too-high, leaf-is, good-node, named}
-use Rattle.tree.proofs.Ways.{few-before, some-covered, go-down}
+use Rattle.tree.proofs.Kids.{good-named, few-before}
+use Rattle.tree.proofs.Ways.{inside, On, bad-header, at-root, bad-number, bad-node, too-high, leaf-is, good-node}
+use Rattle.tree.proofs.Ways.{some-covered, go-down}
 use Rattle.tree.proofs.descend.descend.Statement.{statement}
 use Rattle.tree.proofs.descend.descend.Tie as tie
 
@@ -51,10 +52,10 @@ child-ok c =
     let k = c .before .before .before .before in
     let s = k .before in
     let n = s .before in
-    let o = n .before .before .loop .inv in
-    let good = not-false _ (c .before .before .if3 .left) in (
-      named _ _ o (used-ok n) (k .look .ensures) good (c .if4 .left) (lies-inside n) (s .slot-word .ensures),
-      few-before _ _ o (used-ok n) (k .look .ensures) good (c .if4 .left) (s .slot-word .ensures),
+    let good = not-false _ (c .before .before .if3 .left) in
+    let g = good-node _ _ (n .before .before .loop .inv) (used-ok n) (k .look .ensures) good (c .if4 .left) in (
+      good-named g (lies-inside n) (s .slot-word .ensures),
+      few-before _ _ (k .look .ensures) good (s .slot-word .ensures),
     )
 
 counts-agree-requires : tie.Need-counts-agree-requires Inv-loop μ-loop
@@ -156,7 +157,7 @@ last-key-requires c κs =
     let h = child-ok f in (
       h .0,
       h .1,
-      some-covered _ _ (n .before .before .loop .inv) (used-ok n) (k .look .ensures) (not-false _ (e .if3 .left)) (f .if4 .left) refl,
+      some-covered _ _ (n .before .before .loop .inv) (used-ok n) (k .look .ensures) (not-false _ (e .if3 .left)) (f .if4 .left),
     )
 
 sub-left-2 : tie.Need-sub-left-2 Inv-loop μ-loop
@@ -175,7 +176,7 @@ loop-again c =
     let k = e .before .before in
     let n = k .before .before in
     go-down _ _ (n .before .before .loop .inv) (used-ok n) (k .look .ensures) (not-false _ (e .if3 .left)) (f .if4 .left)
-    (t .if5 .left) refl (d .child .ensures _ _) (i .first-key .ensures _) (c .last-key .ensures _)
+    (t .if5 .left) (d .child .ensures _ _) (i .first-key .ensures _) (c .last-key .ensures _)
 
 pub descend-spec : {M : Type 1} → statement M
 descend-spec =

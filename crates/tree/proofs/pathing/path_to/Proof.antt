@@ -3,7 +3,8 @@ use borrow.Author.Needs.{needs}
 use native.Mathlib.Omega.{arith}
 use Rattle.tree.specs.Descended.{Reaches}
 use Rattle.tree.proofs.Form.{form, counts}
-use Rattle.tree.proofs.Paths.{header-ok, On, at-root, leaf-last, lies-inside, named, few-before, go-down}
+use Rattle.tree.proofs.Kids.{good-named, few-before}
+use Rattle.tree.proofs.Paths.{header-ok, On, at-root, leaf-last, good-here, lies-inside, found-good, go-down}
 use Rattle.tree.proofs.pathing.path_to.Statement.{statement}
 use Rattle.tree.proofs.pathing.path_to.Tie as tie
 
@@ -64,9 +65,11 @@ child-requires c κs =
     let w = c .before in
     let i = w .before in
     let l = i .before in
-    let s = l .before .before .before .before in (
-      named _ _ _ (on-of l) (i .loop-test .taken) (s .pre .0) (w .slot-word .ensures),
-      few-before _ _ _ (on-of l) (i .loop-test .taken) (c .look .ensures) (w .slot-word .ensures),
+    let o = on-of l in
+    let s = l .before .before .before .before in
+    let inside = lies-inside _ _ _ o (i .loop-test .taken) (s .pre .0) in (
+      good-named (good-here _ _ _ o (i .loop-test .taken)) inside (w .slot-word .ensures),
+      few-before _ _ (c .look .ensures) (found-good _ _ _ o (i .loop-test .taken) (c .look .ensures)) (w .slot-word .ensures),
     )
 
 sub-left-2 : tie.Need-sub-left-2 Inv-loop μ-loop
