@@ -1,85 +1,105 @@
--- Each number of the table is reached: by a full node, again and again as its own parent, whose new record always stays.
-use Prim.Native.Nat.{ℕ, zero, suc, _+_, _-_, _≤_, _<_}
-use mathlib.Core.Path.{_≡_, refl}
-use mathlib.Core.List.{List, [], _∷_, _++_}
+-- Each number of the table is reached: by a put whose key goes leftmost all the way down full nodes, so that each new record stays.
+use Prim.Native.Nat.{ℕ, _+_, _-_, _*_, _≤_, _<_}
+use mathlib.Core.Path.{_≡_, refl, sym, ap, _∙_}
+use mathlib.Core.List.{List, [], _∷_, _++_, map}
 use mathlib.Core.Bool.{Bool, true, false, _&&_}
 use native.Mathlib.Omega.{arith}
-use native.Mathlib.Decide.{decLe}
-use lib.ListN.{length, replicate}
-use lib.Dec.{T, eqb}
-use borrow.Author.Tests.{eqb-true}
-use Rattle.words.specs.Tests.{if_then_else_}
-use Rattle.node.specs.View.{Record, view}
-use Rattle.words.proofs.Tests.{both}
-use Rattle.change.specs.Steps.{full}
-use Rattle.change.specs.Plan.{plan-events}
-use Rattle.change.specs.Put.{split}
-use Rattle.change.specs.Sums.{seven}
+use lib.ListN.{length}
+use lib.Dec.{T}
+use lib.Ieee.Bits.{is-true}
+use Rattle.words.specs.Lists.{count-from}
+use Rattle.words.specs.Pool.{used-at, root-at, height-at, list-words}
+use Rattle.words.specs.Event.{at, run}
+use Rattle.words.specs.Blocks.{Pair, stores}
+use Rattle.words.proofs.Tests.{both-hold}
+use Rattle.words.proofs.Lists.{length-from, at-from}
+use Rattle.node.specs.Lists.{all-below}
+use Rattle.node.specs.View.{no-end}
+use Rattle.node.proofs.Every.{every, every-at}
+use Rattle.tree.specs.Lists.{gather}
+use Rattle.tree.specs.Path.{Way, failed, leaf, way-to}
+use Rattle.change.specs.declared.Outcome.{Outcome}
+use Rattle.change.specs.declared.Outcome.the-variants.{New}
+use Rattle.change.specs.Gate.{Planned}
+use Rattle.change.specs.Steps.{new-node}
+use Rattle.change.specs.Put.{put}
+use Rattle.change.specs.Calls.{put-answer}
+use Rattle.change.specs.Sums.{Row, numbers, outcome, fresh, AllAgree}
 use Rattle.change.specs.Most.{most, split-levels, new-roots, Reached}
 use Rattle.change.proofs.Opened.{opened}
+use Rattle.change.proofs.Rows.{tests, all-agree}
+use Rattle.change.proofs.Cases.{list-passes}
 
--- a test that passes at the n numbers from i on
-passes : (ℕ → Bool) → ℕ → ℕ → Bool
-passes f i zero = true
-passes f i (suc n) = f i && passes f (suc i) n
+-- node k with n entries: node 1 is the leaf of 10, 20, ..; each other node has the node before it as its leftmost child, and higher
+-- keys. The way down takes leftmost children alone, so that the other children may be any numbers
+abbrev level : ℕ → ℕ → List Pair
+level n k = new-node k (k - 1) (map (λ (i : ℕ). (10 * i, k - 1)) (count-from (7 * k - 6) n))
 
-passes-at : (f : ℕ → Bool) (i n : ℕ) → passes f i n ≡ true → (l : ℕ) → i ≤ l → l < i + n → f l ≡ true
-unfolding passes
-passes-at f i zero e l h k = absurd (omega arith)
-passes-at f i (suc n) e l h k =
-    let b = both {a = f i} {b = passes f (suc i) n} e in
-    go (b .0) (λ p. passes-at f (suc i) n (b .1) l p (omega arith)) (decLe (suc i) l)
-  where
-    go : f i ≡ true → (suc i ≤ l → f l ≡ true) → Dec (suc i ≤ l) → f l ≡ true
-    go b r (yes p) = r p
-    go b r (no p) = let q : l ≡ i = omega arith in rw q b
+-- l full nodes one above the other, under a root of one entry where the root is to be kept, and as many nodes left as a split needs
+unfoldable memory : ℕ → ℕ → List ℕ
+memory r l =
+    let top = l + 1 - r in
+    let header : List Pair = (used-at, top) ∷ (root-at, top) ∷ (height-at, top) ∷ [] in
+    run (fresh (2 * l + 1)) (stores (header ++ (gather (level 7) (count-from 1 l) ++ gather (level 1) (count-from (l + 1) (1 - r)))))
 
--- node 1 is full, node 2 is not
-abbrev ups : ℕ → ℕ → List ℕ
-ups r l = replicate (l - 1) 1 ++ (if eqb r 0 then 2 ∷ [] else [])
+-- the put of 5, which is below all keys
+abbrev plan : ℕ → ℕ → Planned Outcome
+plan r l = put list-words (memory r l) 5 5
 
-abbrev new : Record
-new = (5, 5)
+-- the cell of the table, and that the put is not refused
+abbrev rows : ℕ → ℕ → List ℕ → List Row
+rows r l path =
+    numbers (l ∷ r ∷ []) (split-levels (memory r l) path ∷ new-roots (memory r l) path ∷ [])
+    ∷ numbers (most r l ∷ []) (length (plan r l .events) ∷ [])
+    ∷ outcome New (plan r l .answer)
+    ∷ []
+
+-- that it is so where the way down comes to a leaf, and that all words have 64 bits
+meets : ℕ → ℕ → Way → Bool
+meets r l (failed node) = false
+meets r l (leaf k above) = all-below no-end (5 ∷ 5 ∷ memory r l) && tests (rows r l (k ∷ above))
 
 test : ℕ → ℕ → Bool
-test r l =
-    full (view (seven 3) 1) && eqb (split-levels (seven 3) (1 ∷ ups r l)) l && eqb (new-roots (seven 3) (1 ∷ ups r l)) r
-    && eqb (length (plan-events (split (seven 3) 1 (ups r l) new))) (most r l)
+test r l = meets r l (way-to (memory r l) 5)
 
-kept : T (passes (test 0) 1 7)
-unfolding opened split-levels passes test
-kept = tt
+-- all fourteen
+cells : T (every (λ r. every (test r) (count-from 1 7)) (count-from 0 2))
+unfolding opened every tests split-levels memory meets test
+cells = tt
 
-grown : T (passes (test 1) 1 7)
-unfolding opened split-levels passes test
-grown = tt
+-- a test that passes at the n numbers from i on passes at each of them
+each : (f : ℕ → Bool) (i n x : ℕ) → every f (count-from i n) ≡ true → i ≤ x → x < i + n → f x ≡ true
+each f i n x t h k =
+    let e : at (count-from i n) (x - i) ≡ x = at-from i n (x - i) (omega arith) ∙ omega arith in
+    rw e at (every-at f (x - i) (count-from i n) t (omega (arith, length-from i n)))
 
-at-test : (r l : ℕ) → test r l ≡ true → Reached r l (most r l)
-unfolding test
-at-test r l e =
-    let a = full (view (seven 3) 1) in
-    let b = eqb (split-levels (seven 3) (1 ∷ ups r l)) l in
-    let c = eqb (new-roots (seven 3) (1 ∷ ups r l)) r in
-    let d = eqb (length (plan-events (split (seven 3) 1 (ups r l) new))) (most r l) in
-    let h₁ = both {a = a && b && c} {b = d} e in
-    let h₂ = both {a = a && b} {b = c} (h₁ .0) in
-    let h₃ = both {a = a} {b = b} (h₂ .0) in
+-- a list that is long enough answers as one of 372 words does
+answers : (r l : ℕ) → New ≡ plan r l .answer → most r l ≡ length (plan r l .events) → (list : List ℕ) → list-words ≤ length list
+    → put-answer (memory r l) list 5 5 ≡ record { outcome = New; events = most r l }
+answers r l e c list h = rw (list-passes (length list) _ h, ← e, ← c)
+
+passed : (r l : ℕ) (w : Way) → way-to (memory r l) 5 ≡ w → T (meets r l w) → Reached r l (most r l)
+unfolding meets
+passed r l (failed node) e t = absurd t
+passed r l (leaf k above) e t =
+    let h = both-hold (all-below no-end (5 ∷ 5 ∷ memory r l)) (tests (rows r l (k ∷ above))) t in
+    let agree : AllAgree (rows r l (k ∷ above)) = all-agree (rows r l (k ∷ above)) (h .1) in
     record {
-      memory = seven 3;
-      leaf = 1;
-      above = ups r l;
-      new = new;
-      is-full = h₃ .0;
-      levels = eqb-true (split-levels (seven 3) (1 ∷ ups r l)) l (h₃ .1);
-      roots = eqb-true (new-roots (seven 3) (1 ∷ ups r l)) r (h₂ .1);
-      count = eqb-true (length (plan-events (split (seven 3) 1 (ups r l) new))) (most r l) (h₁ .1);
+      memory = memory r l;
+      key = 5;
+      value = 5;
+      words = is-true _ (h .0);
+      node = k;
+      above = above;
+      way = e;
+      levels = sym (ap (λ (xs : List ℕ). at xs 0) (agree .0));
+      roots = sym (ap (λ (xs : List ℕ). at xs 1) (agree .0));
+      call = answers r l (agree .1 .1 .0) (ap (λ (xs : List ℕ). at xs 0) (agree .1 .0));
     }
 
-is-true : (b : Bool) → T b → b ≡ true
-is-true true t = refl
-is-true false t = absurd t
-
 pub reached : (r l : ℕ) → r ≤ 1 → 1 ≤ l → l ≤ 7 → Reached r l (most r l)
-reached zero l p q s = at-test 0 l (passes-at (test 0) 1 7 (is-true (passes (test 0) 1 7) kept) l q (omega arith))
-reached (suc zero) l p q s = at-test 1 l (passes-at (test 1) 1 7 (is-true (passes (test 1) 1 7) grown) l q (omega arith))
-reached (suc (suc r)) l p q s = absurd (omega arith)
+unfolding test
+reached r l p q s =
+    let row = each (λ r. every (test r) (count-from 1 7)) 0 2 r (is-true _ cells) (omega arith) (omega arith) in
+    let cell = each (test r) 1 7 l row q (omega arith) in
+    passed r l (way-to (memory r l) 5) refl (rw cell tt)

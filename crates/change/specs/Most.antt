@@ -7,14 +7,17 @@ use lib.ListN.{length}
 use Rattle.words.specs.Tests.{if_then_else_}
 use Rattle.words.specs.Lists.{count-from}
 use Rattle.words.specs.Pool.{list-words, events-most}
-use Rattle.node.specs.View.{Record, view}
+use Rattle.node.specs.Lists.{all-below}
+use Rattle.node.specs.View.{Record, view, no-end}
+use Rattle.tree.specs.Path.{leaf, way-to}
 use Rattle.change.specs.declared.Request.{Request}
+use Rattle.change.specs.declared.Outcome.the-variants.{New}
 use Rattle.change.specs.Steps.{full}
 use Rattle.change.specs.Plan.{plan-events}
 use Rattle.change.specs.Put.{split, needed}
 use Rattle.change.specs.Recover.{recover}
 use Rattle.change.specs.Format.{format}
-use Rattle.change.specs.Calls.{serve}
+use Rattle.change.specs.Calls.{put-answer, serve}
 
 -- the pairs of a split of l levels, s of which keep their new record, with r new roots (0 or 1)
 abbrev pub pairs-of : ℕ → ℕ → ℕ → ℕ
@@ -54,18 +57,24 @@ pub record Counted (m : List ℕ) (k : ℕ) (above : List ℕ) (r : Record) : Ty
   pub events :
       length (plan-events (split m k above r)) ≡ events-of (split-levels m (k ∷ above)) staying (new-roots m (k ∷ above))
 
--- some full leaf, path and record of l split levels and r new roots plan so many events
+-- some call of put splits l levels, makes r new roots and plans so many events. The memory is one of 64-bit words, and a pool as far as
+-- put looks at it: the header, the commit word and each node on the key's path pass every test of the refusals. It need not be a
+-- well-formed pool: nothing is said of the children off the path.
 pub record Reached (r l events : ℕ) : Type 0 where
   pub memory : List ℕ
-  pub leaf : ℕ
+  pub key : ℕ
+  pub value : ℕ
+  pub words : all-below no-end (key ∷ value ∷ memory) ≡ true
+  pub node : ℕ
   pub above : List ℕ
-  pub new : Record
-  pub is-full : full (view memory leaf) ≡ true
-  pub levels : split-levels memory (leaf ∷ above) ≡ l
-  pub roots : new-roots memory (leaf ∷ above) ≡ r
-  pub count : length (plan-events (split memory leaf above new)) ≡ events
+  pub way : way-to memory key ≡ leaf node above
+  pub levels : split-levels memory (node ∷ above) ≡ l
+  pub roots : new-roots memory (node ∷ above) ≡ r
+  -- with every list that is long enough, the call answers new and this count of events
+  pub call : (list : List ℕ) → list-words ≤ length list
+      → put-answer memory list key value ≡ record { outcome = New; events = events }
 
--- the table says the most: the formula gives it, no split plans more, and each number is reached
+-- the table says the most: the formula gives it, no split plans more, and for each number there is a call of put that plans so many
 pub record Most : Type 0 where
   pub kept-row : map (most 0) (count-from 1 7) ≡ root-kept
   pub new-row : map (most 1) (count-from 1 7) ≡ new-root
