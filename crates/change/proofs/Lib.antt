@@ -19,6 +19,7 @@ pub mod Risen
 pub mod Run
 pub mod Split
 pub mod Cases
+pub mod Told
 pub mod Served
 pub mod Bounds
 pub mod Recover

@@ -6,15 +6,16 @@ use mathlib.Core.Bool.{Bool, true, false}
 use native.Mathlib.Omega.{arith}
 use lib.ListN.{length}
 use lib.Dec.{eqb}
-use borrow.Author.Tests.{eqb-true, eqb-false}
+use borrow.Author.Tests.{eq-eqb, eqb-true, eqb-false}
 use Rattle.words.specs.Lists.{count-from}
 use Rattle.words.specs.Pool.{line, log-at, pairs-at}
+use Rattle.words.specs.Event.{store, flush}
 use Rattle.words.specs.Blocks.{Pair, stores, flushes, lines, stored}
 use Rattle.words.proofs.Lists.{length-from}
 use Rattle.words.proofs.Blocks.{length-stored}
 use Rattle.node.specs.Slot.{slot}
-use Rattle.node.specs.View.{Record, slot-at, link-at, key-at}
-use Rattle.change.specs.Steps.{laid, new-node}
+use Rattle.node.specs.View.{Record, slot-at, link-at, key-at, value-at}
+use Rattle.change.specs.Steps.{entry-pairs, laid, new-node}
 use Rattle.change.specs.Plan.{log-words}
 
 -- the pairs' words follow each other from word w on
@@ -103,3 +104,11 @@ log-lines ps h = go (log-words pairs-at ps) (log-from pairs-at pairs-at ps refl)
 pub log-stored : (ps : List Pair) → 1 ≤ length ps → length (stored (log-words pairs-at ps)) ≡ 2 * length ps + 1 + length ps / 4
 log-stored ps h =
     rw (length-stored, log-lines ps h, length-from) (omega (arith, length-log pairs-at ps))
+
+-- the two words of an entry lie in one line
+pub entry-stored : (k i : ℕ) (r : Record)
+    → stored (entry-pairs k i r) ≡ store (key-at k i) (r .0) ∷ store (value-at k i) (r .1) ∷ flush (line (value-at k i)) ∷ []
+unfolding stored lines
+entry-stored k i r =
+    let same : line (key-at k i) ≡ line (value-at k i) = omega arith in
+    rw (eq-eqb (line (key-at k i)) (line (value-at k i)) same)

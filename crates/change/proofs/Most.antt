@@ -4,15 +4,13 @@ use mathlib.Core.Path.{_≡_, refl}
 use mathlib.Core.List.{List, [], _∷_}
 use mathlib.Core.Bool.{Bool, true, false, not}
 use native.Mathlib.Omega.{arith}
-use lib.ListN.{length, length-append}
+use lib.ListN.{length}
 use lib.Dec.{ltb, eqb}
 use borrow.Author.Tests.{ltb-false, not-false}
 use Rattle.words.specs.Tests.{if_then_else_, within}
-use Rattle.words.specs.Pool.{pairs-at, capacity-most, total-of, list-words, height-most, events-most, line}
-use Rattle.words.specs.Blocks.{lines}
-use Rattle.words.proofs.Blocks.{length-stored}
+use Rattle.words.specs.Pool.{pairs-at, capacity-most, total-of, list-words, height-most, events-most}
 use Rattle.node.specs.Lists.{has}
-use Rattle.node.specs.View.{Record, View, view, keys, key-at, value-at}
+use Rattle.node.specs.View.{Record, View, view, keys}
 use Rattle.tree.specs.Header.{capacity-of, used-of, commit-of, form-agrees}
 use Rattle.tree.specs.Path.{Way, failed, leaf, way-to}
 use Rattle.tree.proofs.Form.{counts}
@@ -21,7 +19,7 @@ use Rattle.change.specs.declared.Request.{Request}
 use Rattle.change.specs.declared.Request.the-variants.{Put, Fetch, Delete}
 use Rattle.change.specs.declared.Outcome.{Outcome}
 use Rattle.change.specs.Gate.{Planned, refused, past-list, past-gate, at-leaf}
-use Rattle.change.specs.Steps.{full, entry-pairs, fill-spot}
+use Rattle.change.specs.Steps.{full}
 use Rattle.change.specs.Plan.{log-finished, plan-events}
 use Rattle.change.specs.Format.{format-past-list, format}
 use Rattle.change.specs.Recover.{log-pairs, log-agrees, recover-past-form, recover}
@@ -32,6 +30,7 @@ use Rattle.change.specs.Calls.{serve}
 use Rattle.change.specs.Most.{split-levels, Most, Fits}
 use Rattle.change.proofs.Counts.{finished-count, length-log-pairs, format-count}
 use Rattle.change.proofs.Counts.{levels-full, levels-room, needed-full, needed-room, no-more}
+use Rattle.change.proofs.Lines.{entry-stored}
 use Rattle.change.proofs.Worst.{reached}
 use Rattle.change.proofs.Recover.{log-says}
 
@@ -71,13 +70,7 @@ split-small m k above r t h n =
     omega (arith, no-more m k above r t, d .low, d .high, d .long)
 
 fill-small : (k : ℕ) (u : View) (r : Record) → length (fill-events k u r) ≤ events-most
-unfolding lines
-fill-small k u r = rw (length-append, length-stored) (go (eqb (line (key-at k (fill-spot u))) (line (value-at k (fill-spot u)))) refl)
-  where
-    go : (b : Bool) → eqb (line (key-at k (fill-spot u))) (line (value-at k (fill-spot u))) ≡ b
-        → length (entry-pairs k (fill-spot u) r) + length (lines (entry-pairs k (fill-spot u) r)) + 4 ≤ events-most
-    go true t = rw t (omega arith)
-    go false t = rw t (omega arith)
+fill-small k u r = rw entry-stored (omega arith)
 
 put-at-small : (m : List ℕ) (key value k : ℕ) (above : List ℕ) → length above ≤ 7 → Small (put-at m key value k above)
 unfolding put-at

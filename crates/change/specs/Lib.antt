@@ -14,4 +14,5 @@ pub mod Room
 pub mod Calls
 pub mod Rule
 pub mod Most
+pub mod Told
 pub mod Sums

@@ -22,7 +22,8 @@ use Rattle.change.specs.declared.Request.{Request}
 use Rattle.change.specs.declared.Formatted.{Formatted}
 use Rattle.change.specs.declared.Formatted.the-variants.{Planned as Formatting}
 use Rattle.change.specs.declared.Recovery.{Recovery}
-use Rattle.change.specs.Gate.{Planned}
+use Rattle.change.specs.declared.Recovery.the-variants.{Clean}
+use Rattle.change.specs.Gate.{Planned, quiet}
 use Rattle.change.specs.Format.{format-events, format}
 use Rattle.change.specs.Recover.{recover, recovery}
 use Rattle.change.specs.Calls.{serve, key-of}
@@ -34,7 +35,9 @@ use Rattle.change.proofs.Goes.{go-stores, go-inside, go-numbered}
 use Rattle.change.proofs.Served as served
 use Rattle.change.proofs.Recover.{recover-room}
 use Rattle.change.proofs.Survives.{Accepts, Under, Seen, seen-well-formed, seen-map, total-fits, Survives}
+use Rattle.change.proofs.LeafCuts.{none-survives}
 use Rattle.change.proofs.ServeCuts.{serve-survives}
+use Rattle.change.proofs.Told.{told}
 use Rattle.change.proofs.FormatCuts.{FormatLeft, stood, no-pool, emptied, format-safe, format-under, format-cut}
 use Rattle.pool.specs.Demand2.{Holds, CarriedOut, Untouched, KeepsRest, Accepted, Settles, Changes}
 use Rattle.pool.specs.Demand2.{Served, no-room, done, NoPool, Formats, Demand2}
@@ -171,5 +174,16 @@ module _ (m l : List ℕ) (capacity : ℕ) (long : p.list-words ≤ length l) (l
         from-20 = λ n m′ a c. from-20 a (left n m′ c);
       })
 
+-- a well-formed pool holds its own map
+holds-own : {m : List ℕ} → WellFormed m → Holds m (map-of m)
+holds-own w = record { well-formed = w; map-is = λ key. refl }
+
 pub demand-2 : Demand2
-demand-2 = record { counts = served.serve-counted; serves = serves; formats = formats }
+demand-2 = record {
+  serves = serves;
+  rests = λ m w. settles (quiet Clean) w (none-survives w) (holds-own w);
+  formats = formats;
+  counts = served.serve-counted;
+  few = λ m l q. fits .serves (length l) m q;
+  told = told;
+}

@@ -3,12 +3,11 @@ use Prim.Native.Nat.{ℕ, _<_}
 use mathlib.Core.Path.{_≡_, sym, _∙_, ap}
 use mathlib.Core.List.{List, [], _∷_}
 use mathlib.Core.Bool.{true, false}
-use native.Mathlib.Omega.{arith}
 use lib.ListN.{getD, length}
-use borrow.Author.Tests.{eq-eqb, ne-eqb}
+use borrow.Author.Tests.{ne-eqb}
 use Rattle.words.specs.Pool.{line}
 use Rattle.words.specs.Event.{store, flush, fence}
-use Rattle.words.specs.Blocks.{once, lines, stored}
+use Rattle.words.specs.Blocks.{once}
 use Rattle.words.specs.Written.{Wrote}
 use Rattle.words.proofs.Written.{wrote-append}
 use Rattle.node.specs.Lists.{insert}
@@ -18,17 +17,9 @@ use Rattle.node.proofs.Slots.{length-names}
 use Rattle.tree.specs.declared.descend.Seat.{Seat}
 use Rattle.tree.proofs.Leaves.{AtLeaf}
 use Rattle.change.specs.declared.Outcome.the-variants.{New, Replaced}
-use Rattle.change.specs.Steps.{entry-pairs}
 use Rattle.change.specs.Put.{replace-events, fill-events, put-at}
+use Rattle.change.proofs.Lines.{entry-stored}
 use Rattle.pool.specs.Puts.{Says}
-
--- the two words of an entry lie in one line
-entry-stored : (k i key value : ℕ)
-    → stored (entry-pairs k i (key, value)) ≡ store (key-at k i) key ∷ store (value-at k i) value ∷ flush (line (value-at k i)) ∷ []
-unfolding stored lines
-entry-stored k i key value =
-    let same : line (key-at k i) ≡ line (value-at k i) = omega arith in
-    rw (eq-eqb (line (key-at k i)) (line (value-at k i)) same)
 
 module _ {u : View} {w key place : ℕ} (s : Says u w key place) (k value : ℕ) where
   pub replaced : {e v n : ℕ} {l l′ : List ℕ} → e ≡ getD (names w) place 0 → v ≡ value-at k e → Wrote (once v value) 0 l n l′
@@ -40,7 +31,7 @@ module _ {u : View} {w key place : ℕ} (s : Says u w key place) (k value : ℕ)
       → Wrote (store x key ∷ []) 0 l n₁ l₁ → Wrote (store v value ∷ []) n₁ l₁ n₂ l₂ → Wrote (flush f ∷ []) n₂ l₂ n₃ l₃
       → Wrote (fence ∷ []) n₃ l₃ n₄ l₄ → Wrote (once a b) n₄ l₄ n l₅ → Wrote (fill-events k u (key, value)) 0 l n l₅
   filled {e} lowest x v f a b c₁ c₂ c₃ c₄ c₅ =
-      rw (s .names-are, s .rank-is, ← lowest, entry-stored k e key value, ← b, ← x, ← v, ← f, ← a)
+      rw (s .names-are, s .rank-is, ← lowest, entry-stored k e (key, value), ← b, ← x, ← v, ← f, ← a)
       (wrote-append c₁ (wrote-append c₂ (wrote-append c₃ (wrote-append c₄ c₅))))
 
 -- the returns of a leaf that has the key, or room for it

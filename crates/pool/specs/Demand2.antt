@@ -1,11 +1,11 @@
--- Demand 2, as a type: the user's words stand at its end, and the parts they name above it. Throughout, m is the words of a pool, l a
--- lent list, f the map before a change and g the map after it.
+-- Demand 2, as a type: the user's words stand at its end, clause by clause, and the parts they name above it. Throughout, m is the words
+-- of a pool, l a lent list, f the map before a change and g the map after it.
 use Prim.Native.Nat.{ℕ, _+_, _*_, _≤_, _<_}
 use mathlib.Core.Path.{_≡_}
 use mathlib.Core.Logic.{_⊎_}
-use mathlib.Core.List.{List}
+use mathlib.Core.List.{List, []}
 use lib.ListN.{length, take}
-use Rattle.words.specs.Pool.{form-at, pairs-most, capacity-most, list-words, total-of}
+use Rattle.words.specs.Pool.{form-at, pairs-most, capacity-most, list-words, events-most, total-of}
 use Rattle.words.specs.Event.{Event, at, run}
 use Rattle.words.specs.Written.{Lists}
 use Rattle.words.specs.Carry.{after-all, AllDone}
@@ -27,6 +27,7 @@ use Rattle.change.specs.Recover.{recover, recovery}
 use Rattle.change.specs.Room.{Crowded}
 use Rattle.change.specs.Calls.{serve, serve-answer, key-of}
 use Rattle.change.specs.Rule.{empty, rule}
+use Rattle.change.specs.Told.{Told}
 
 -- a well-formed pool, and the map that it is
 pub record Holds (m : List ℕ) (f : Map) : Type 0 where
@@ -49,7 +50,7 @@ pub record KeepsRest (total : ℕ) (m m′ : List ℕ) : Type 0 where
   pub size : length m′ ≡ length m
   pub rest : (w : ℕ) → total ≤ w → at m′ w ≡ at m w
 
--- "recovery accepts what is found": with a lent list l it is not refused, plans the same events as with any other, at most 31 pairs'
+-- "Recovery accepts it": with a lent list l it is not refused, plans the same events as with any other, at most 31 pairs'
 -- worth, and they can be carried out; after the last of them every word is safe
 pub record Accepted (m l : List ℕ) : Type 0 where
   pub unrefused : (why : Refusal) → recover (length l) m .answer ≡ Refused why → ⊥
@@ -59,15 +60,16 @@ pub record Accepted (m l : List ℕ) : Type 0 where
   pub safe : (w : ℕ) → Safe m (recovery m) w
   pub untouched : Untouched (total-in m) (recovery m)
 
--- of a change on m from the map f to the map g by the events es, m′ was found after n of them: "recovery accepts what is found and
--- leaves a well-formed pool with the map before the change or after it; once the last event is done, only after"
+-- of a change on m from the map f to the map g by the events es, m′ was found after n of them: "Recovery accepts it and leaves a
+-- well-formed pool with the map before the change or after it; once the change's last event is done, only after."
 pub record Settles (m : List ℕ) (es : List Event) (n : ℕ) (f g : Map) (m′ : List ℕ) : Type 0 where
   pub accepted : (l : List ℕ) → list-words ≤ length l → Accepted m′ l
   pub either : Holds (run m′ (recovery m′)) f ⊎ Holds (run m′ (recovery m′)) g
   pub only-after : length es ≤ n → Holds (run m′ (recovery m′)) g
   pub keeps : KeepsRest (total-in m) m (run m′ (recovery m′))
 
--- the plan p of a call on m with the lent list l changes the map f to the map g, whole, and cut "after any event .., again and again"
+-- the plan p of a call on m with the lent list l changes the map f to the map g, whole; and cut "after any event of a put, of a delete or
+-- of recovery after it", "let each word hold any value that 01's rule of loss allows"
 pub record Changes {A : Type 0} (m l : List ℕ) (p : Planned A) (f g : Map) : Type 0 where
   pub carried : CarriedOut p m l (run m (p .events))
   pub holds : Holds (run m (p .events)) g
@@ -102,13 +104,21 @@ pub record Formats (m l : List ℕ) (capacity : ℕ) (p : Planned Formatted) : T
   pub to-19 : (n : ℕ) (m′ : List ℕ) → 18 ≤ n → n ≤ 19 → Cut m (take n (p .events)) m′ → NoPool m′ ⊎ (m′ ≡ run m (p .events))
   pub from-20 : (n : ℕ) (m′ : List ℕ) → 20 ≤ n → Cut m (take n (p .events)) m′ → m′ ≡ run m (p .events)
 
--- "On a well-formed pool fetch, put and delete answer and leave the map that 01 defines, by 01's events in 01's order. Cut the power after
--- any event of a put, a delete or the recovery after it, again and again: recovery accepts what is found and leaves a well-formed pool
--- with the map before the change or after it; once the last event is done, only after."
+-- "On a well-formed pool, fetch, put and delete answer and leave the map that 01 defines after the slot-only write-atomic tree of Chen and
+-- Jin (VLDB 2015), by 01's events in 01's order. From such a pool, all words safe, cut the power after any event of a put, of a delete or
+-- of recovery after it, and let each word hold any value that 01's rule of loss allows. Recovery accepts it and leaves a well-formed pool
+-- with the map before the change or after it; once the change's last event is done, only after."
 -- So for every well-formed pool, every list of 372 words or more and every request with a 64-bit key; and format, for every capacity.
+-- This is all that the desks are built on: "The desk part is built on the pool part's promise alone".
 pub record Demand2 : Type 0 where
-  -- "the list itself, its length the count"
-  pub counts : (m l : List ℕ) (q : Request) → serve-answer m l q .events ≡ length (serve (length l) m q .events)
   pub serves : (m l : List ℕ) (q : Request) → WellFormed m → list-words ≤ length l → key-of q < no-end → Served m l q
+  -- power lost while nothing is carried out, or before the first event
+  pub rests : (m : List ℕ) → WellFormed m → (n : ℕ) (m′ : List ℕ) → Found recovery m [] n m′ → Settles m [] n (map-of m) (map-of m) m′
   pub formats : (m l : List ℕ) (capacity : ℕ) → list-words ≤ length l → 1 ≤ capacity → capacity ≤ capacity-most
       → total-of capacity ≤ length m → Formats m l capacity (format (length l) (length m) capacity)
+  -- "the list itself, its length the count", on whatever memory
+  pub counts : (m l : List ℕ) (q : Request) → serve-answer m l q .events ≡ length (serve (length l) m q .events)
+  -- no request plans more than the 186 events of the largest split, on whatever memory
+  pub few : (m l : List ℕ) (q : Request) → length (serve (length l) m q .events) ≤ events-most
+  -- 01's counts, and what recover and check answer, on whatever memory
+  pub told : Told
