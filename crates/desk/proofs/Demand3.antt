@@ -1,34 +1,35 @@
 -- Demand 3, from the pool part's promise.
-use Prim.Native.Nat.{ℕ, suc, _+_, _*_, _≤_, _<_}
+use Prim.Native.Nat.{ℕ, zero, suc, _+_, _*_, _≤_, _<_}
 use mathlib.Core.Path.{_≡_, refl, sym, _∙_, ap, subst}
-use mathlib.Core.Logic.{_⊎_, inl, inr}
+use mathlib.Core.Logic.{inl, inr}
 use mathlib.Core.List.{List, [], _∷_, _++_}
-use mathlib.Core.Bool.{true}
+use mathlib.Core.Bool.{true, false}
 use native.Mathlib.Omega.{arith}
-use native.Mathlib.Nat.{mul-le-mul-right}
-use lib.ListN.{length, length-append}
+use lib.ListN.{length, take}
 use Rattle.words.specs.Pool.{list-words, events-most}
-use Rattle.words.specs.Event.{Event, run, at}
+use Rattle.words.specs.Event.{Event, run}
 use Rattle.words.specs.Carry.{AllDone}
-use Rattle.words.specs.Loss.{IsStore, Some, Safe, MayHold}
+use Rattle.words.specs.Loss.{Safe}
 use Rattle.words.specs.Cuts.{Found}
+use Rattle.words.proofs.Loss.{settled-safe}
 use Rattle.change.specs.declared.Request.{Request}
 use Rattle.change.specs.declared.Answer.{Answer}
 use Rattle.change.specs.Calls.{serve-answer}
 use Rattle.desk.specs.declared.desk.Desk.{Desk}
-use Rattle.desk.specs.declared.desk.Desk.the-variants.{Holding}
+use Rattle.desk.specs.declared.desk.Desk.the-variants.{Empty, Holding}
 use Rattle.desk.specs.declared.answer.Submitted.the-variants.{Accepted}
 use Rattle.desk.specs.declared.answer.Turned.the-variants.{Served, Idle}
-use Rattle.desk.specs.Desk.{held, accepts}
+use Rattle.desk.specs.Desk.{fresh, full, held, accepts}
 use Rattle.desk.specs.Turn.{Left, as-handed, submit-answer, submit-desks}
 use Rattle.desk.specs.Rows.{our-way, House, Call, submit, turn, Seen, step, after, turns, listed, events-of, carried}
-use Rattle.desk.specs.Demand3.{Pools, InTime, Ruled, idle, by-rule, no-room, AllRuled, Given, Ready, Demand3}
+use Rattle.desk.specs.Demand3.{Pools, InTime, Ruled, idle, by-rule, no-room, AllRuled, Given, Ready, Settled, Demand3}
+use Rattle.desk.proofs.Bounds.{not-both}
 use Rattle.desk.proofs.Choose.{dist, dist-range}
 use Rattle.desk.proofs.Desks.{accepts-true, accepted-is, length-submit, submit-there}
 use Rattle.desk.proofs.Took.{left-by, seen-by, turn-in, Took, nobody-full, one-served, took}
 use Rattle.desk.proofs.Fair.{Fate, waits, comes, fate}
 use Rattle.desk.proofs.Once.{each-once}
-use Rattle.desk.proofs.Promise.{Recovered, Answers, Kept, Promise, count-is, events-are, pool-is, all-done}
+use Rattle.desk.proofs.Promise.{Answers, Kept, Promise, count-is, events-are, pool-is, all-done}
 use Rattle.desk.proofs.Ready.{lent, given-first, given-then, sits, ready-submit, kept, ready-turn, ready-after, same-desks}
 
 -- every turn carries out few events
@@ -36,31 +37,18 @@ abbrev Each : List Seen → Type 0
 Each [] = Unit {0}
 Each (t ∷ ts) = (t .left .answer .events ≤ events-most) × Each ts
 
-each-sum : (ts : List Seen) → Each ts → carried ts ≤ length ts * events-most
-each-sum [] h = omega arith
-each-sum (t ∷ ts) h =
-    let i : carried ts ≤ length ts * events-most = each-sum ts (h .1) in
-    let e : suc (length ts) * events-most ≡ events-most + length ts * events-most = omega arith in
-    rw e (omega (arith, h .0))
+-- so the first M of them carry out at most M times as many
+each-first : (M : ℕ) (ts : List Seen) → Each ts → carried (take M ts) ≤ M * events-most
+each-first zero ts h = omega arith
+each-first (suc M) [] h = omega arith
+each-first (suc M) (t ∷ ts) h =
+    let e : suc M * events-most ≡ events-most + M * events-most = omega arith in
+    rw e (omega (arith, h .0, each-first M ts (h .1)))
 
-each-part : (a : List Seen) (t : Seen) (b : List Seen) → Each (a ++ t ∷ b) → Each (a ++ t ∷ [])
-each-part [] t b h = (h .0, tt)
-each-part (x ∷ a) t b h = (h .0, each-part a t b (h .1))
-
--- where nothing was carried out every word is safe
-safe-none : (m : List ℕ) (w : ℕ) → Safe m [] w
-safe-none m w u v a b = one u a ∙ sym (one v b)
-  where
-    none-left : (x y : List Event) → x ++ y ≡ [] → (x ≡ []) × (y ≡ [])
-    none-left [] y e = (refl, e)
-    none-left (z ∷ x) y e = let c : _≡_ {A = ℕ} 0 1 = cc in absurd (omega arith)
-
-    one : (v : ℕ) → MayHold m [] w v → v ≡ at m w
-    one v a = go (a .done) (a .since) (none-left (a .done) (a .since) (a .all)) (a .holds)
-      where
-        go : (x y : List Event) → (x ≡ []) × (y ≡ []) → (v ≡ at (run m x) w) ⊎ Some (IsStore w v) y → v ≡ at m w
-        go x y (e, f) (inl h) = rw e at h
-        go x y (e, f) (inr h) = absurd (rw f at h)
+-- a desk that is not full is a fresh one
+not-full : (d : Desk) → full d ≡ false → d ≡ fresh
+not-full Empty e = refl
+not-full (Holding q) e = absurd (not-both true refl e)
 
 module _ (P : Pools) (K : Promise P) where
   each-few : (r : List Call) (h : House) → Given P r → Ready P h → Each (turns our-way h r)
@@ -73,12 +61,12 @@ module _ (P : Pools) (K : Promise P) where
     where
       go : (t : Left) → Took h l t → t .answer .events ≤ events-most
       go t (nobody-full f) = omega arith
-      go t (one-served k q a b e n) = let x = kept P K h l k q y (g .0) e in rw (count-is x (g .0)) (x .few)
+      go t (one-served k q a b e n) = let x = kept P K h l k q y (g .0) e in rw (count-is x) (x .few)
 
   -- one turn answers by the rule
   ruled : (h : House) (l : List ℕ) (t : Left) → list-words ≤ length l → Took h l t → Ready P h
       → Ruled P (seen-by h t) (P .map-of (h .pool)) (P .map-of (t .pool))
-  ruled h l t room (nobody-full f) y = idle refl refl
+  ruled h l t room (nobody-full f) y = idle (λ j. not-full (held (h .desks) j) (f j)) refl refl
   ruled h l t room (one-served k q a b e n) y = go (x .answers)
     where
       x : Kept P (h .pool) l q
@@ -88,11 +76,11 @@ module _ (P : Pools) (K : Promise P) where
       says = ap (λ (z : Answer). Served (z .outcome)) (x .answer-is)
 
       after-is : P .map-of (t .pool) ≡ P .map-of (run (h .pool) (x .plan .events))
-      after-is = ap (P .map-of) (pool-is x room)
+      after-is = ap (P .map-of) (pool-is x)
 
       go : Answers P (h .pool) q (x .plan) → Ruled P (seen-by h t) (P .map-of (h .pool)) (P .map-of (t .pool))
-      go (inl (o, m)) = by-rule q e (says ∙ ap Served o) (after-is ∙ m)
-      go (inr (o, lacks, m)) = no-room q e (says ∙ ap Served o) lacks (after-is ∙ m)
+      go (inl (o, m)) = by-rule q e (says ∙ ap Served o) refl (after-is ∙ m)
+      go (inr (o, lacks, m)) = no-room q e (says ∙ ap Served o) refl lacks (after-is ∙ m)
 
   all-ruled : (r : List Call) (h : House) → Given P r → Ready P h
       → AllRuled P (turns our-way h r) (P .map-of (h .pool)) (P .map-of (after our-way h r .pool))
@@ -107,37 +95,42 @@ module _ (P : Pools) (K : Promise P) where
   -- the events of one turn
   abbrev Carried : Seen → Type 0
   Carried t =
-      (length (events-of t) ≡ t .left .answer .events) × AllDone (t .handed) (t .left .list) 1 (t .left .answer .events)
-      × (t .left .pool ≡ run (t .handed) (events-of t)) × ((w : ℕ) → w < length (t .handed) → Safe (t .handed) (events-of t) w)
+      (length (events-of t) ≡ t .left .answer .events) × AllDone (t .handed .pool) (t .left .list) 1 (t .left .answer .events)
+      × (t .left .pool ≡ run (t .handed .pool) (events-of t))
+      × ((w : ℕ) → w < length (t .handed .pool) → Safe (t .handed .pool) (events-of t) w)
 
   carries-none : (h : House) (l : List ℕ) → Carried (seen-by h (as-handed (h .pool) l (h .last) Idle))
   unfolding listed AllDone
-  carries-none h l = (refl, tt, refl, λ w s. safe-none (h .pool) w)
+  carries-none h l = (refl, tt, refl, λ w s. settled-safe (h .pool) [] w tt)
 
   carries : (h : House) (l : List ℕ) (t : Left) → list-words ≤ length l → Took h l t → Ready P h → Carried (seen-by h t)
   carries h l t room (nobody-full f) y = carries-none h l
   carries h l t room (one-served k q a b e n) y =
       let x = kept P K h l k q y room e in
-      let es = events-are x room in (
-        ap length es ∙ sym (count-is x room),
-        all-done x room,
-        pool-is x room ∙ ap (run (h .pool)) (sym es),
+      let es = events-are x in (
+        ap length es ∙ sym (count-is x),
+        all-done x,
+        pool-is x ∙ ap (run (h .pool)) (sym es),
         subst (λ (z : List Event). (w : ℕ) → w < length (h .pool) → Safe (h .pool) z w) (sym es) (x .safe),
       )
 
-  cutting-none : (h : House) (l : List ℕ) → Ready P h → (n : ℕ) (m : List ℕ)
-      → Found (P .recovery) (h .pool) (events-of (seen-by h (as-handed (h .pool) l (h .last) Idle))) n m
-      → Recovered P (h .pool) (h .pool) m
+  -- a cut in one turn
+  abbrev Cutting : House → Left → Type 0
+  Cutting h t =
+      (n : ℕ) (m : List ℕ) → Found (P .recovery) (h .pool) (events-of (seen-by h t)) n m
+      → Settled P (h .pool) (events-of (seen-by h t)) (t .pool) n m
+
+  cutting-none : (h : House) (l : List ℕ) → Ready P h → Cutting h (as-handed (h .pool) l (h .last) Idle)
   unfolding listed
   cutting-none h l y n m c = K .rests (h .pool) n m (y .good) c
 
-  cutting : (h : House) (l : List ℕ) (t : Left) → list-words ≤ length l → Took h l t → Ready P h
-      → (n : ℕ) (m : List ℕ) → Found (P .recovery) (h .pool) (events-of (seen-by h t)) n m → Recovered P (h .pool) (t .pool) m
-  cutting h l t room (nobody-full f) y n m c = cutting-none h l y n m c
-  cutting h l t room (one-served k q a b e p) y n m c =
+  cutting : (h : House) (l : List ℕ) (t : Left) → list-words ≤ length l → Took h l t → Ready P h → Cutting h t
+  cutting h l t room (nobody-full f) y = cutting-none h l y
+  cutting h l t room (one-served k q a b e p) y =
       let x = kept P K h l k q y room e in
-      let found = subst (λ (es : List Event). Found (P .recovery) (h .pool) es n m) (events-are x room) c in
-      subst (λ (after : List ℕ). Recovered P (h .pool) after m) (sym (pool-is x room)) (x .cuts n m found)
+      let Cuts : List Event → List ℕ → Type 0 = λ (es : List Event) (after : List ℕ).
+      (n : ℕ) (m : List ℕ) → Found (P .recovery) (h .pool) es n m → Settled P (h .pool) es after n m in
+      subst (λ (es : List Event). Cuts es (t .pool)) (sym (events-are x)) (subst (Cuts (x .plan .events)) (sym (pool-is x)) (x .cuts))
 
   module _ (h : House) (y : Ready P h) (r : List Call) (g : Given P r) where
     y₁ : Ready P (after our-way h r)
@@ -177,22 +170,18 @@ module _ (P : Pools) (K : Promise P) where
 
         go : (ts : List Seen) → turns our-way h₂ s ≡ ts → Fate M (after our-way h r .last) j q ts → InTime M j q ts
         go ts e (waits w) = absurd (omega (arith, w .short, far, enough, ap length e))
-        go ts e (comes before its rest c m d w) =
-            let each : Each (before ++ its ∷ []) = each-part before its rest (rw (e, c) at (each-few s h₂ fs y₂)) in
-            let short : suc (length before) ≤ M = omega (arith, w .short, far) in
-            let size : length (before ++ its ∷ []) ≡ suc (length before) = rw length-append (omega arith) in
-            let sum : carried (before ++ its ∷ []) ≤ suc (length before) * events-most = rw size at (each-sum (before ++ its ∷ []) each) in
-            record {
-              before = before;
-              its = its;
-              rest = rest;
-              in-row = c;
-              serves = (m, d);
-              by-then = short;
-              once = w .once;
-              not-yet = w .never j (j-is .0) (j-is .1) (omega arith);
-              few = omega (arith, sum, mul-le-mul-right events-most short);
-            }
+        go ts e (comes before its rest o c v m d w) = record {
+          before = before;
+          its = its;
+          rest = rest;
+          in-row = c;
+          outcome = o;
+          serves = (v, m, d);
+          by-then = omega (arith, w .short, far);
+          once = w .once;
+          not-yet = w .never j (j-is .0) (j-is .1) (omega arith);
+          few = each-first M ts (rw e at (each-few s h₂ fs y₂));
+        }
 
   pub demand3 : (h : House) → Ready P h → Demand3 our-way P h
   demand3 h y =

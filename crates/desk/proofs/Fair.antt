@@ -8,10 +8,13 @@ use lib.ListN.{length}
 use borrow.Author.Tests.{eq-eqb, ne-eqb}
 use Rattle.words.specs.Pool.{list-words}
 use Rattle.change.specs.declared.Request.{Request}
+use Rattle.change.specs.declared.Outcome.{Outcome}
+use Rattle.change.specs.Calls.{serve-answer}
 use Rattle.desk.specs.declared.desk.Desk.the-variants.{Holding}
+use Rattle.desk.specs.declared.answer.Turned.the-variants.{Served}
 use Rattle.desk.specs.Desk.{fresh, full, held, with-desk}
 use Rattle.desk.specs.Turn.{Left, serve-desk, submit-desks}
-use Rattle.desk.specs.Rows.{our-way, House, Call, submit, turn, Seen, step, turns, times}
+use Rattle.desk.specs.Rows.{our-way, House, Call, submit, turn, Seen, desk-of, step, turns, times}
 use Rattle.desk.proofs.Bounds.{not-both, may-turn-true}
 use Rattle.desk.proofs.Choose.{dist, dist-range, dist-step, dist-same, dist-self, full-range}
 use Rattle.desk.proofs.Desks.{length-with, with-other, length-submit, submit-keeps}
@@ -40,8 +43,8 @@ pub record Waits (M last j : ℕ) (ts : List Seen) : Type 0 where
 
 pub data Fate (M last j : ℕ) (q : Request) : List Seen → Type 0 where
   waits : {ts : List Seen} → Waits M last j ts → Fate M last j q ts
-  comes : {ts : List Seen} (before : List Seen) (its : Seen) (rest : List Seen) → ts ≡ before ++ its ∷ rest → member-of its ≡ j
-      → its .desk ≡ Holding q → Waits M last j before → Fate M last j q ts
+  comes : {ts : List Seen} (before : List Seen) (its : Seen) (rest : List Seen) (o : Outcome) → ts ≡ before ++ its ∷ rest
+      → its .left .answer .turned ≡ Served o → member-of its ≡ j → desk-of its ≡ Holding q → Waits M last j before → Fate M last j q ts
 
 start : (M last j : ℕ) → last ≤ M → 1 ≤ j → j ≤ M → Waits M last j []
 start M last j l a b = record { short = dist-range M last l j a b .0; once = λ k p. omega arith; never = λ k p q r. refl }
@@ -73,8 +76,8 @@ module _ (M last j : ℕ) (t : Seen) (l : last ≤ M) (a : 1 ≤ member-of t) (b
 
   nearer-fate : (q : Request) (ts : List Seen) → Fate M (member-of t) j q ts → Fate M last j q (t ∷ ts)
   nearer-fate q ts (waits w) = waits (nearer ts w)
-  nearer-fate q ts (comes before its rest e m h w) =
-      comes (t ∷ before) its rest (ap (λ (l : List Seen). t ∷ l) e) m h (nearer before w)
+  nearer-fate q ts (comes before its rest o e a m h w) =
+      comes (t ∷ before) its rest o (ap (λ (l : List Seen). t ∷ l) e) a m h (nearer before w)
 
 -- whatever the row
 pub fate : (r : List Call) (h : House) (j : ℕ) (q : Request) → Lent r → Sits h → held (h .desks) j ≡ Holding q
@@ -107,7 +110,8 @@ fate (turn l ∷ r) h j q (room, lent) s e =
     serve k p a b f n (yes x) ih =
         let t = serve-desk (h .pool) l (h .last) k (Holding p) in
         let f′ : held (h .desks) k ≡ Holding q = rw (← x) at e in
-        comes [] (seen-by h t) (turns our-way (left-by h t) r) refl x f′ (start M (h .last) j last-is (g .0) (g .1))
+        comes [] (seen-by h t) (turns our-way (left-by h t) r) (serve-answer (h .pool) l p .outcome) refl refl x f′
+        (start M (h .last) j last-is (g .0) (g .1))
     serve k p a b f n (no x) ih =
         let t = serve-desk (h .pool) l (h .last) k (Holding p) in
         let m : length (with-desk (h .desks) k fresh) ≡ M = length-with (h .desks) k fresh in

@@ -20,3 +20,4 @@ pub mod Demand3
 pub mod Wrong
 pub mod Cases
 pub mod OurPools
+pub mod Instance

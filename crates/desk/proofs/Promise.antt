@@ -1,9 +1,8 @@
 -- What the desks need of serving a request: the pool part's promise, and what it says of the words in the list.
 use Prim.Native.Nat.{ℕ, suc, _≤_, _<_}
-use mathlib.Core.Path.{_≡_, refl, sym, ap, subst}
+use mathlib.Core.Path.{_≡_, refl, ap}
 use mathlib.Core.Logic.{_⊎_}
 use mathlib.Core.List.{List, [], _∷_}
-use native.Mathlib.Omega.{arith}
 use lib.ListN.{length}
 use Rattle.words.specs.Pool.{list-words, events-most}
 use Rattle.words.specs.Event.{Event, run}
@@ -12,7 +11,6 @@ use Rattle.words.specs.Carry.{after-all, AllDone}
 use Rattle.words.specs.Loss.{Safe}
 use Rattle.words.specs.Cuts.{Found}
 use Rattle.words.specs.declared.refusal.Refusal.the-variants.{NoRoom}
-use Rattle.words.proofs.Listed.{Numbered, Inside, written-lists, carried-all}
 use Rattle.change.specs.Rule.{rule}
 use Rattle.change.specs.Gate.{Planned, answered, list-after}
 use Rattle.change.specs.declared.Request.{Request}
@@ -21,14 +19,9 @@ use Rattle.change.specs.declared.Outcome.the-variants.{Refused}
 use Rattle.change.specs.declared.Answer.{Answer}
 use Rattle.change.specs.Calls.{serve-answer, serve-list}
 use Rattle.desk.specs.Rows.{listed}
-use Rattle.desk.specs.Demand3.{Pools}
+use Rattle.desk.specs.Demand3.{Pools, Settled}
 
 module _ (P : Pools) where
-  -- once what was found is recovered: a well-formed pool with one of these maps
-  abbrev pub Recovered : List ℕ → List ℕ → List ℕ → Type 0
-  Recovered m m″ m′ =
-      let r = run m′ (P .recovery m′) in P .WellFormed r × ((P .map-of r ≡ P .map-of m) ⊎ (P .map-of r ≡ P .map-of m″))
-
   -- the outcome is the map's rule's, or 5 where the nodes lack, which changes nothing
   abbrev pub Answers : List ℕ → Request → Planned Outcome → Type 0
   Answers m q p =
@@ -41,17 +34,19 @@ module _ (P : Pools) where
     pub answer-is : serve-answer m l q ≡ answered plan
     pub list-is : serve-list m l q ≡ list-after plan l
     pub few : length (plan .events) ≤ events-most
-    pub numbered : Numbered (plan .events)
-    pub inside : Inside m (plan .events)
+    pub listed : Lists (list-after plan l) 1 (plan .events)
+    pub unrefused : AllDone m (list-after plan l) 1 (length (plan .events))
+    pub leaves : after-all m (list-after plan l) 1 (length (plan .events)) ≡ run m (plan .events)
     pub good : P .WellFormed (run m (plan .events))
     pub answers : Answers m q plan
     pub safe : (w : ℕ) → w < length m → Safe m (plan .events) w
-    pub cuts : (n : ℕ) (m′ : List ℕ) → Found (P .recovery) m (plan .events) n m′ → Recovered m (run m (plan .events)) m′
+    pub cuts : (n : ℕ) (m′ : List ℕ) → Found (P .recovery) m (plan .events) n m′
+        → Settled P m (plan .events) (run m (plan .events)) n m′
 
   pub record Promise : Type 0 where
     pub serves : (m l : List ℕ) (q : Request) → P .WellFormed m → P .Fits q → list-words ≤ length l → Kept m l q
     -- power goes while nothing is carried out
-    pub rests : (m : List ℕ) (n : ℕ) (m′ : List ℕ) → P .WellFormed m → Found (P .recovery) m [] n m′ → Recovered m m m′
+    pub rests : (m : List ℕ) (n : ℕ) (m′ : List ℕ) → P .WellFormed m → Found (P .recovery) m [] n m′ → Settled P m [] m n m′
 
 -- a list that has these events lists them
 listed-is : (l : List ℕ) (n : ℕ) (es : List Event) → Lists l n es → listed l n (length es) ≡ es
@@ -60,7 +55,7 @@ listed-is l n [] h = refl
 listed-is l n (e ∷ es) h = rw (h .0) (ap (λ (k : List Event). e ∷ k) (listed-is l (suc n) es (h .1)))
 
 -- what the turn does with it
-module _ {P : Pools} {m l : List ℕ} {q : Request} (k : Kept P m l q) (room : list-words ≤ length l) where
+module _ {P : Pools} {m l : List ℕ} {q : Request} (k : Kept P m l q) where
   abbrev pub planned : List Event
   planned = k .plan .events
 
@@ -73,15 +68,11 @@ module _ {P : Pools} {m l : List ℕ} {q : Request} (k : Kept P m l q) (room : l
   abbrev pub left : List ℕ
   left = serve-list m l q
 
-  lists : Lists left 1 planned
-  lists = subst (λ (x : List ℕ). Lists x 1 planned) (sym (k .list-is)) (written-lists planned 0 l (k .numbered) (omega (arith, k .few)))
-
   pub events-are : listed left 1 count ≡ planned
-  events-are = subst (λ (c : ℕ). listed left 1 c ≡ planned) (sym count-is) (listed-is left 1 planned lists)
+  events-are = rw (count-is, k .list-is) (listed-is (list-after (k .plan) l) 1 planned (k .listed))
 
   pub pool-is : after-all m left 1 count ≡ run m planned
-  pool-is =
-      subst (λ (c : ℕ). after-all m left 1 c ≡ run m planned) (sym count-is) (carried-all m left 1 planned lists (k .inside) .0)
+  pool-is = rw (count-is, k .list-is) (k .leaves)
 
   pub all-done : AllDone m left 1 count
-  all-done = subst (AllDone m left 1) (sym count-is) (carried-all m left 1 planned lists (k .inside) .1)
+  all-done = rw (count-is, k .list-is) (k .unrefused)

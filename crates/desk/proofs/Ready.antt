@@ -70,7 +70,7 @@ module _ (P : Pools) where
         let x = kept h l k q y room e in
         let m = length-with (h .desks) k fresh in
         record {
-          good = rw (pool-is x room) (x .good);
+          good = rw (pool-is x) (x .good);
           some-desks = rw m (y .some-desks);
           not-many = rw m (y .not-many);
           last-is = rw m b;

@@ -29,7 +29,7 @@ abbrev pub left-by : House → Left → House
 left-by h t = record { pool = t .pool; desks = with-desk (h .desks) (t .answer .member) fresh; last = t .answer .last }
 
 abbrev pub seen-by : House → Left → Seen
-seen-by h t = record { handed = h .pool; desk = held (h .desks) (t .answer .member); left = t }
+seen-by h t = record { handed = h; left = t }
 
 -- no full desk is nearer than k's
 abbrev pub Nearest : House → ℕ → Type 0

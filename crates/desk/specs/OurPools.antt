@@ -6,6 +6,7 @@ use Rattle.tree.specs.Map.{map-of}
 use Rattle.change.specs.Recover.{recovery}
 use Rattle.change.specs.Room.{Crowded}
 use Rattle.change.specs.Calls.{key-of}
+use Rattle.pool.specs.Demand2.{Accepted}
 use Rattle.desk.specs.Rows.{House, our-way}
 use Rattle.desk.specs.Demand3.{Pools, Ready, Demand3}
 
@@ -14,6 +15,7 @@ our-pools = record {
   WellFormed = WellFormed;
   map-of = map-of;
   recovery = recovery;
+  Accepts = Accepted;
   Lacks = Crowded;
   Fits = λ q. key-of q < no-end;
 }

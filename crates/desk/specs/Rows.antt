@@ -32,11 +32,14 @@ pub data Call : Type 0 where
   submit : ℕ → Request → Call
   turn : List ℕ → Call
 
--- a turn as it was seen: the pool handed in, the desk of the member it answered, and what it left
+-- a turn as it was seen: what was handed in, and what it answered and left
 pub record Seen : Type 0 where
-  pub handed : List ℕ
-  pub desk : Desk
+  pub handed : House
   pub left : Left
+
+-- the desk, as it was handed in, of the member that the turn answered
+abbrev pub desk-of : Seen → Desk
+desk-of t = held (t .handed .desks) (t .left .answer .member)
 
 -- "A turn leaves its events in the list": c events of it from event n on
 abbrev pub found-at : Option Event → List Event → List Event
@@ -52,9 +55,7 @@ events-of t = listed (t .left .list) 1 (t .left .answer .events)
 
 module _ (X : Way) where
   abbrev pub seen : House → List ℕ → Seen
-  seen h l =
-      let t = X .turn (h .pool) l (h .desks) (h .last) in
-      record { handed = h .pool; desk = held (h .desks) (t .answer .member); left = t }
+  seen h l = record { handed = h; left = X .turn (h .pool) l (h .desks) (h .last) }
 
   abbrev pub step : House → Call → House
   step h (submit j q) = record { pool = h .pool; desks = d.submit-desks (h .desks) j q; last = h .last }

@@ -58,7 +58,7 @@ module _ (l : List ℕ) (size : length l ≡ list-words) where
       let e : length zeroes ≡ total-of capacity = length-replicate (total-of capacity) _ in
       rw (size, e) at (demand-2 .formats zeroes l capacity long low high (omega arith) .holds .well-formed)
 
-  seven-well-formed : (capacity : ℕ) → 1 ≤ capacity → capacity ≤ capacity-most → WellFormed (seven capacity)
+  pub seven-well-formed : (capacity : ℕ) → 1 ≤ capacity → capacity ≤ capacity-most → WellFormed (seven capacity)
   unfolding seven
   seven-well-formed capacity low high =
       puts-keep (fresh capacity) (10 ∷ 20 ∷ 30 ∷ 40 ∷ 50 ∷ 60 ∷ 70 ∷ []) (fresh-well-formed capacity low high)

@@ -3,6 +3,7 @@ use Prim.Native.Nat.{ℕ, _<_}
 use mathlib.Core.Path.{_≡_, sym, _∙_, ap}
 use mathlib.Core.List.{List, [], _∷_}
 use mathlib.Core.Bool.{true, false}
+use native.Mathlib.Omega.{arith}
 use lib.ListN.{getD, length}
 use borrow.Author.Tests.{ne-eqb}
 use Rattle.words.specs.Pool.{line}
