@@ -89,7 +89,8 @@ filled-counts : (room : ℕ) (m : List ℕ) (key value k : ℕ) (above : List �
     → way-to m key ≡ leaf k above → full (view m k) ≡ false → Long 7 (put room m key value)
 filled-counts room m key value k above new way room-left =
     gates o.New (Long 7) (λ why e. let z : _≡_ {A = ℕ} 0 1 = cc in omega arith) room m key (put-at m key value)
-    (λ j ks e. let same : leaf j ks ≡ leaf k above = sym e ∙ way in let i : j ≡ k = cc in go (rw i room-left) (put-case m key value j ks)) new
+    (λ j ks e. let same : leaf j ks ≡ leaf k above = sym e ∙ way in let i : j ≡ k = cc in
+    go (rw i room-left) (put-case m key value j ks)) new
   where
     go : {j : ℕ} {ks : List ℕ} {p : Planned Outcome} → full (view m j) ≡ false → PutAt m key value j ks p → Answered o.New (Long 7) p
     go t (replaces a) x = let z : _≡_ {A = ℕ} 0 1 = cc in absurd (omega arith)
