@@ -18,11 +18,11 @@ use Rattle.line.specs.declared.fields.Command.the-variants as c
 use Rattle.line.specs.declared.parsing.Line.{Line}
 use Rattle.line.specs.declared.parsing.Line.the-variants.{Ask, Bad}
 
--- "Fields are parted by single blanks"
+-- fields are parted by single blanks (DECISIONS 23)
 abbrev pub blank : ℕ
 blank = 32
 
--- "64 bytes do not count the newline"
+-- the newline is not among the 64 bytes of a line (DECISIONS 23)
 abbrev pub newline : ℕ
 newline = 10
 
@@ -49,7 +49,7 @@ unfoldable pub stop : ℕ → List ℕ → ℕ
 stop b [] = 0
 stop b (x ∷ xs) = if eqb x b then 0 else suc (stop b xs)
 
--- "digits only, no sign": '0' to '9'
+-- digits only, no sign (DECISIONS 23): '0' to '9'
 abbrev pub is-digit : ℕ → Bool
 is-digit b = within 48 b 57
 
@@ -58,7 +58,7 @@ unfoldable pub read : ℕ → List ℕ → Number
 read n [] = if ltb n (2 ^ 64) then Is n else Not
 read n (d ∷ ds) = if is-digit d then read (n * 10 + (d - 48)) ds else Not
 
--- "decimal"; "leading zeros are accepted"; no digit is no number
+-- "decimal"; leading zeros are accepted (DECISIONS 23); no digit is no number
 unfoldable pub number-of : List ℕ → Number
 number-of [] = Not
 number-of (d ∷ ds) = read 0 (d ∷ ds)
@@ -102,12 +102,12 @@ after-command c (k ∷ []) = with-key c (number-of k)
 after-command c (k ∷ v ∷ []) = with-value c (number-of k) (number-of v)
 after-command c (k ∷ v ∷ w ∷ ws) = Bad
 
--- "An empty line, a carriage return or a trailing blank is a bad line": no other fields ask anything
+-- no other fields ask anything: an empty line, a carriage return or a trailing blank is a bad line (DECISIONS 23)
 abbrev pub fields-mean : List (List ℕ) → Line
 fields-mean [] = Bad
 fields-mean (w ∷ fields) = after-command (command-of w) fields
 
--- "(decimal, at most 64 bytes a line)"; "64 bytes do not count the newline"; "Any other line .. `? badline 0`"
+-- "(decimal, at most 64 bytes a line)", the newline not counted (DECISIONS 23); "Any other line .. `? badline 0`"
 unfoldable pub meaning : List ℕ → Line
 meaning bytes = if leb (length bytes) line-most then fields-mean (parts blank bytes) else Bad
 
@@ -118,7 +118,7 @@ without-empty-last ([] ∷ []) = []
 without-empty-last ((x ∷ xs) ∷ []) = (x ∷ xs) ∷ []
 without-empty-last (p ∷ q ∷ ps) = p ∷ without-empty-last (q ∷ ps)
 
--- "A last line without a newline counts": the lines of an input
+-- the lines of an input; a last line without a newline counts (DECISIONS 23)
 abbrev pub lines-in : List ℕ → List (List ℕ)
 lines-in input = without-empty-last (parts newline input)
 

@@ -39,7 +39,7 @@ stepped false t b = record { taker = with-byte t b; came = Nothing }
 abbrev pub step : Taker → ℕ → Taken
 step t b = stepped (eqb b newline) t b
 
--- "A last line without a newline counts"
+-- a last line without a newline counts (DECISIONS 23)
 abbrev pub rest : Taker → Came
 rest t = if eqb (t .len) 0 then Nothing else Whole (whole t)
 
