@@ -119,6 +119,21 @@ struct Waiting {
     served: Vec<u64>,
 }
 
+/// A sentence of the promise that a turn has broken.
+#[derive(Debug, PartialEq, Eq)]
+enum Broken {
+    /// A member is not served by the M-th turn.
+    Late,
+    /// Another desk is served twice before a member that waits.
+    Twice,
+    /// The turns that a member waits for carry out more than M times 186 events.
+    Events,
+    /// A turn is idle while a member waits, or serves an empty desk.
+    Unasked,
+    /// An answer, or a pool after it, that is not the map's.
+    Map,
+}
+
 /// The members' promise, kept up turn by turn.
 struct Promise {
     map: Map,
@@ -133,80 +148,102 @@ impl Promise {
         }
     }
 
-    /// The promise at a turn that has been taken.
-    fn turned(&mut self, turn: &Turn, pool: &[u64]) {
+    fn accepted(&mut self, member: u64, request: Request) {
+        self.waiting[member as usize - 1] = Some((request, Waiting::default()));
+    }
+
+    /// Whether the promise holds at a turn that has been taken.
+    fn turned(&mut self, turn: &Turn, pool: &[u64]) -> Result<(), Broken> {
         let members = self.waiting.len() as u64;
-        for (_, waiting) in self.waiting.iter_mut().flatten() {
+        for (member, desk) in (1..).zip(&mut self.waiting) {
+            let Some((_, waiting)) = desk else { continue };
             waiting.turns += 1;
             waiting.events += turn.events.len() as u64;
-            assert!(waiting.turns <= members && waiting.events <= members * EVENTS_MOST);
-            assert!(!waiting.served.contains(&turn.member), "member {} served twice", turn.member);
+            hold(waiting.turns < members || turn.member == member, Broken::Late)?;
+            hold(waiting.events <= members * EVENTS_MOST, Broken::Events)?;
+            hold(!waiting.served.contains(&turn.member), Broken::Twice)?;
             waiting.served.push(turn.member);
         }
+        self.served(turn, pool)
+    }
+
+    /// The member served had a full desk, and its answer and the pool after it are the map's.
+    fn served(&mut self, turn: &Turn, pool: &[u64]) -> Result<(), Broken> {
         let Some(answer) = turn.served else {
-            assert!(self.waiting.iter().all(|waiting| waiting.is_none()), "idle with a full desk");
-            return;
+            return hold(self.waiting.iter().all(|waiting| waiting.is_none()), Broken::Unasked);
         };
-        let (request, _) = self.waiting[turn.member as usize - 1].take().expect("a full desk is served");
+        let (request, _) = self.waiting[turn.member as usize - 1].take().ok_or(Broken::Unasked)?;
         let (outcome, after) = by_map(&self.map, request);
         match answer {
             Ok(answer) => {
-                assert_eq!(answer, outcome);
+                hold(answer == outcome, Broken::Map)?;
                 self.map = after;
             }
-            Err(number) => assert_eq!((number, outcome), (5, Outcome::New)),
+            Err(number) => hold((number, outcome) == (5, Outcome::New), Broken::Map)?,
         }
-        assert_eq!(map_of(pool).as_ref(), Some(&self.map));
-    }
-
-    /// After M turns no one who then waited still waits.
-    fn none_waits_past(&self, members: u64) {
-        for (_, waiting) in self.waiting.iter().flatten() {
-            assert!(waiting.turns < members, "still waiting after {members} turns");
-        }
+        hold(map_of(pool).as_ref() == Some(&self.map), Broken::Map)
     }
 }
 
-/// One submit, to a member's desk that may be full.
-fn submit_one(row: &mut Row, promise: &mut Promise, random: &mut Random) {
-    let (member, request) = (random.between(1, promise.waiting.len() as u64), some_request(random));
-    if row.submit(member, request).is_ok() {
-        promise.waiting[member as usize - 1] = Some((request, Waiting::default()));
+fn hold(kept: bool, broken: Broken) -> Result<(), Broken> {
+    kept.then_some(()).ok_or(broken)
+}
+
+/// A step of a row: a submit, to a desk that may be full, or a turn.
+#[derive(Clone, Copy)]
+enum Step {
+    Submit(u64, Request),
+    Turn,
+}
+
+/// Takes the steps, each turn handed what `from` makes of the last served, and holds each turn to the promise.
+fn kept(pool: Vec<u64>, members: u64, steps: &[Step], from: fn(u64) -> u64) -> Result<(), Broken> {
+    let mut row = Row::new(pool, members as usize);
+    let mut promise = Promise::new(&row.pool, members as usize);
+    for step in steps {
+        match *step {
+            Step::Submit(member, request) => {
+                if row.submit(member, request).is_ok() {
+                    promise.accepted(member, request);
+                }
+            }
+            Step::Turn => {
+                row.last = from(row.last);
+                let turn = row.turn(LIST_WORDS).expect("a turn");
+                promise.turned(&turn, &row.pool)?;
+            }
+        }
     }
+    Ok(())
 }
 
 #[test]
 fn rows_of_submits_and_turns() {
     each_seed("rows_of_submits_and_turns", 3000, |random| {
         let members = random.between(1, 16);
-        let capacity = random.between(1, 20);
-        let mut row = Row::new(grown_pool(capacity, 0, random).proved, members as usize);
-        let mut promise = Promise::new(&row.pool, members as usize);
+        let pool = grown_pool(random.between(1, 20), 0, random).proved;
         let busy = random.pick(&[20, 50, 80]);
-        for _ in 0..120 {
-            if random.percent(busy) {
-                submit_one(&mut row, &mut promise, random);
-                continue;
-            }
-            let turn = row.turn(LIST_WORDS).expect("a turn");
-            promise.turned(&turn, &row.pool);
-            promise.none_waits_past(members);
-        }
+        let some_step = |_| match random.percent(busy) {
+            true => Step::Submit(random.between(1, members), some_request(random)),
+            false => Step::Turn,
+        };
+        let steps: Vec<Step> = (0..120).map(some_step).collect();
+        assert_eq!(kept(pool, members, &steps, |last| last), Ok(()));
     });
 }
 
-/// A turn that looks from desk 1 each time breaks the promise, and the test sees it.
+/// Rows in which every member asks again at once. The promise holds of the desks; where each turn looks from desk 1 it is broken
+/// at the second turn: of two members the other is late, and of more the first is served twice.
 #[test]
 fn looking_from_desk_1_each_time_is_caught() {
-    let mut row = Row::new(grown_pool(3, 0, &mut Random::from_seed(0)).proved, 2);
-    let mut served = Vec::new();
-    row.submit(2, Request::Fetch(1)).expect("an empty desk");
-    for _ in 0..2 {
-        row.submit(1, Request::Fetch(1)).expect("an empty desk");
-        row.last = 0;
-        served.push(row.turn(LIST_WORDS).expect("a turn").member);
+    for members in 2..=16 {
+        let pool = grown_pool(3, 0, &mut Random::from_seed(members)).proved;
+        let asked = (1..=members).map(|member| Step::Submit(member, Request::Fetch(member)));
+        let steps: Vec<Step> = asked.chain([Step::Turn]).cycle().take(60 * (members as usize + 1)).collect();
+        assert_eq!(kept(pool.clone(), members, &steps, |last| last), Ok(()));
+        let broken = if members == 2 { Broken::Late } else { Broken::Twice };
+        assert_eq!(kept(pool, members, &steps, |_| 0), Err(broken));
     }
-    assert_eq!(served, [1, 1], "member 2 still waits after two turns");
 }
 
 /// Rubbish: any pool, any number of desks, members and last served out of range, lists of every length.
