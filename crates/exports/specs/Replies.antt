@@ -15,7 +15,7 @@ use Rattle.change.specs.declared.Checked.{Checked}
 use Rattle.change.specs.declared.Checked.the-variants as c
 use Rattle.exports.specs.declared.reply.Reply.{Reply}
 use Rattle.exports.specs.declared.reply.Verdict.{Verdict}
-use Rattle.exports.specs.Kinds as k
+use Rattle.words.specs.Kinds as k
 
 -- a kind, the events planned, and a value
 abbrev pub plain : ℕ → ℕ → ℕ → Reply

@@ -1,6 +1,6 @@
 // What the exported calls answer, as words that C and Rust read alike.
 ghost use mathlib.Core.Path.{_≡_};
-ghost use Rattle.exports.specs.Kinds as k;
+ghost use Rattle.words.specs.Kinds as k;
 
 // A kind of answer, the events planned (of carrying out, done), and the value found, the pairs replayed or the number of the refusal.
 #[repr(C)]

@@ -6,7 +6,7 @@ use Rattle.desk.specs.declared.answer.Turned.{Turned}
 use Rattle.desk.specs.declared.answer.Turned.the-variants as t
 use Rattle.desk.specs.declared.answer.Turn.{Turn}
 use Rattle.exports.specs.declared.reply.Reply.{Reply}
-use Rattle.exports.specs.Kinds as k
+use Rattle.words.specs.Kinds as k
 use Rattle.exports.specs.Replies.{plain, refused, outcome-reply}
 use Rattle.turns.specs.declared.replies.TurnReply.{TurnReply}
 

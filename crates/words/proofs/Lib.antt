@@ -1,5 +1,6 @@
 -- Laws of words, events and cuts, for the floors above.
 pub mod Tests
+pub mod Answers
 pub mod Turns
 pub mod Lists
 pub mod Joined
@@ -17,3 +18,4 @@ pub mod Logged
 pub mod Values
 pub mod AllCuts
 pub mod Wrong
+pub mod Tight

@@ -1,4 +1,4 @@
--- What carrying out one event answers and leaves: refusal 12 of document 01.
+-- What carrying out one event answers and leaves: refusal 12 of document 01; and its promise.
 use Prim.Native.Nat.{ℕ, zero, suc, _*_}
 use mathlib.Core.Path.{_≡_}
 use mathlib.Core.List.{List}
@@ -12,6 +12,7 @@ use Rattle.words.specs.Event.{Event, store, flush, fence, step, event-at
 use Rattle.words.specs.declared.refusal.Refusal.the-variants.{NoEvent}
 use Rattle.words.specs.declared.carry.Carried.{Carried}
 use Rattle.words.specs.declared.carry.Carried.the-variants.{Done, Refused}
+use Rattle.words.specs.Answers.{carried-says}
 
 -- not "the word or the line's first word outside the slice (a fence's number and the value of flush or fence are not looked at)"
 abbrev pub inside : List ℕ → Event → Bool
@@ -28,6 +29,11 @@ carried m (some e) = if inside m e then Done else Refused NoEvent
 abbrev pub after : List ℕ → Option Event → List ℕ
 after m none = m
 after m (some e) = if inside m e then step m e else m
+
+-- "Every public call promises its answer and each word of pool, list ..": the pool is m before the call and m′ after it; the list l is
+-- lent only to read, and r is the answer
+abbrev pub CarryPromise : List ℕ → List ℕ → ℕ → Carried → List ℕ → Type 0
+CarryPromise m l n r m′ = (carried-says r ≡ carried-says (carried m (event-at l n))) × (m′ ≡ after m (event-at l n))
 
 -- the pool once c events of the list, from event n on, were carried out one after the other
 unfoldable pub after-all : List ℕ → List ℕ → ℕ → ℕ → List ℕ

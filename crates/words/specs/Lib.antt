@@ -3,6 +3,8 @@ pub mod Tests
 pub mod Lists
 pub mod Pool
 pub mod Refusals
+pub mod Kinds
+pub mod Answers
 pub mod Event
 pub mod Written
 pub mod Blocks

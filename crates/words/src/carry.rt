@@ -4,9 +4,7 @@ use crate::kind::FLUSH;
 use crate::kind::STORE;
 use crate::pool::Pool;
 use crate::refusal::Refusal;
-ghost use mathlib.Core.Path.{_≡_};
-ghost use Rattle.words.specs.Event.{event-at};
-ghost use Rattle.words.specs.Carry.{carried, after};
+ghost use Rattle.words.specs.Carry.{CarryPromise};
 
 pub enum Carried {
     Done,
@@ -15,8 +13,7 @@ pub enum Carried {
 
 // Carries out event n of the list, counted from 1, on the pool.
 pub fn carry_out(pool: &mut [u64], list: &[u64], n: u64) -> Carried
-    ensures answer { λ r. ⌜ r ≡ carried (now (pool .entry)) (event-at (now (list .entry)) n) ⌝ }
-    ensures memory { λ _. ⌜ now (pool .exit) ≡ after (now (pool .entry)) (event-at (now (list .entry)) n) ⌝ }
+    ensures { λ r. ⌜ CarryPromise (now (pool .entry)) (now (list .entry)) n r (now (pool .exit)) ⌝ }
 {
     if n == 0 {
         return Carried::Refused(Refusal::NoEvent);

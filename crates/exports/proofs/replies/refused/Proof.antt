@@ -2,7 +2,7 @@
 use Prim.Native.Nat.{ℕ}
 use mathlib.Core.Path.{_∙_, ap}
 use borrow.Author.Needs.{needs}
-use Rattle.exports.specs.Kinds as k
+use Rattle.words.specs.Kinds as k
 use Rattle.exports.specs.Replies.{plain}
 use Rattle.exports.proofs.replies.refused.Statement.{statement}
 use Rattle.exports.proofs.replies.refused.Tie as tie

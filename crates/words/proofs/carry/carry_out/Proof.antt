@@ -1,5 +1,5 @@
 -- `words::carry_out` meets its contract: the two words are read as an event, and each arm is a kind.
-use mathlib.Core.Path.{_≡_, refl}
+use mathlib.Core.Path.{_≡_}
 use mathlib.Core.List.{List}
 use mathlib.Core.Option.{Option}
 use Prim.Native.Nat.{ℕ, _+_, _-_, _*_, _/_, _%_, _<_}
@@ -11,8 +11,7 @@ use lib.Pow.{pow-pos}
 use borrow.Author.Needs.{needs}
 use borrow.Author.Tests.{ne-eqb, lt-ltb, le-ltb}
 use Rattle.words.specs.Event.{Event, at, top-byte, event-at, event-of}
-use Rattle.words.specs.Carry.{carried, after}
-use Rattle.words.specs.declared.carry.Carried.the-variants.{Done}
+use Rattle.words.specs.Carry.{after}
 use Rattle.words.proofs.Listed.{event-zero, event-past, event-read}
 use Rattle.words.proofs.carry.carry_out.Statement.{statement}
 use Rattle.words.proofs.carry.carry_out.Tie as tie
@@ -30,9 +29,9 @@ event : (m : Read) → event-at (start m .args .list .now) (start m .args .n)
     (at (start m .args .list .now) ((start m .args .n - 1) * 2 + 1))
 event m = event-read (start m .args .list .now) (start m .args .n) (omega arith) (omega arith)
 
-store-done : (m : List ℕ) (e : Option Event) (kind word value : ℕ) → e ≡ event-of kind word value → kind ≡ 1 → word < length m
-    → (Done ≡ carried m e) × (set m word value ≡ after m e)
-store-done m e kind word value is k inside = rw (is, k, lt-ltb _ _ inside) (refl, refl)
+stored : (m : List ℕ) (e : Option Event) (kind word value : ℕ) → e ≡ event-of kind word value → kind ≡ 1 → word < length m
+    → set m word value ≡ after m e
+stored m e kind word value is k inside = rw (is, k, lt-ltb _ _ inside)
 
 returns : tie.Need-returns
 returns c = let e = event-zero (c .before .args .list .now) (c .before .args .n) (c .if1 .taken) in (simp e, simp e)
@@ -74,7 +73,11 @@ same-length : tie.Need-same-length
 same-length c = search needs
 
 returns-3 : tie.Need-returns-3
-returns-3 c = store-done _ _ _ _ _ (event (c .before .before)) (c .before .match .keys1) (c .if3 .taken)
+returns-3 c =
+    let e = event (c .before .before) in
+    let k = c .before .match .keys1 in
+    let t = lt-ltb _ _ (c .if3 .taken) in
+    (simp (e, k, t), stored _ _ _ _ _ e k (c .if3 .taken))
 
 mul-if4 : tie.Need-mul-if4
 mul-if4 c =

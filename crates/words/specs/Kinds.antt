@@ -1,4 +1,4 @@
--- The kinds of reply: document 01's answers, numbered, each number named once.
+-- The cases of document 01's answers, numbered, each number named once.
 use Prim.Native.Nat.{ℕ}
 
 abbrev pub refused : ℕ
@@ -42,3 +42,7 @@ accepted = 12
 
 abbrev pub idle : ℕ
 idle = 13
+
+-- a turn that served a request, whatever the outcome
+abbrev pub served : ℕ
+served = 14
