@@ -27,7 +27,7 @@ tall capacity =
 
 -- the number of the refusal of a put of a key above all
 unfoldable pub refusal : ℕ → ℕ
-refusal capacity = outcome-says (put list-words (tall capacity) 1000 0 .answer) .0
+refusal capacity = outcome-says (put list-words (tall capacity) 1000 0 .answer) .1
 
 tests : T (eqb (refusal 16) 5 && eqb (refusal 17) 4)
 unfolding opened tall refusal

@@ -1,4 +1,5 @@
 -- What is proved of the changes.
+pub mod Answers
 pub mod Opened
 pub mod Rows
 pub mod Sums

@@ -8,14 +8,15 @@ use lib.ListN.{length, take, replicate}
 use lib.Dec.{eqb}
 use Rattle.words.specs.Tests.{if_then_else_}
 use Rattle.words.specs.Pool.{total-of, commit-at, list-words}
+use Rattle.words.specs.Kinds as k
+use Rattle.words.specs.Answers.{Said}
 use Rattle.words.specs.Event.{Event, store, flush, fence, at, run}
 use Rattle.words.specs.Loss.{Cut}
 use Rattle.node.specs.View.{Record, view, keys, slot-at, key-at}
 use Rattle.tree.specs.Header.{root-of}
 use Rattle.tree.specs.Map.{records-of}
 use Rattle.change.specs.declared.Outcome.{Outcome}
-use Rattle.change.specs.declared.Outcome.the-variants.{New, Replaced}
-use Rattle.change.specs.Answers.{Said, outcome-says, format-says, recovery-says}
+use Rattle.change.specs.Answers.{outcome-says, format-says, recovery-says}
 use Rattle.change.specs.Gate.{Planned}
 use Rattle.change.specs.Format.{format}
 use Rattle.change.specs.Recover.{recover}
@@ -88,11 +89,9 @@ pub data Left : Type 0 where
   either : Left
   after-only : Left
 
--- a row: numbers by hand, and computed; an outcome; the number of a refusal (0 for none) and values; what a cut of the put of 35
--- after so many events leaves
+-- a row: numbers by hand, and computed; what an answer says; what a cut of the put of 35 after so many events leaves
 pub data Row : Type 0 where
   numbers : List ℕ → List ℕ → Row
-  outcome : Outcome → Outcome → Row
   says : Said → Said → Row
   cut-after : ℕ → Left → Row
 
@@ -107,7 +106,6 @@ Leaves n rs = (m′ : List ℕ) × CutAfter n m′ × (recovered m′ ≡ rs)
 -- the row is right: "before only", "either" (each cut leaves one of the two, and both occur), "after only"
 abbrev pub Agrees : Row → Type 0
 Agrees (numbers by-hand computed) = by-hand ≡ computed
-Agrees (outcome by-hand computed) = by-hand ≡ computed
 Agrees (says by-hand computed) = by-hand ≡ computed
 Agrees (cut-after n before-only) = (m′ : List ℕ) → CutAfter n m′ → recovered m′ ≡ before
 Agrees (cut-after n either) =
@@ -142,23 +140,23 @@ split-rows =
 -- "capacity 2, leaf full, new key: refusal 5; capacity 3 takes it"; "replacing there: 3 events"
 unfoldable pub room-rows : List Row
 room-rows =
-    says (5, []) (outcome-says (put-key (seven 2) 80 .answer))
-    ∷ outcome New (put-key (seven 3) 80 .answer)
-    ∷ outcome Replaced (put-key (seven 2) 30 .answer)
+    says (k.refused, 5, []) (outcome-says (put-key (seven 2) 80 .answer))
+    ∷ says (k.new, 0, []) (outcome-says (put-key (seven 3) 80 .answer))
+    ∷ says (k.replaced, 0, []) (outcome-says (put-key (seven 2) 30 .answer))
     ∷ numbers (3 ∷ []) (length (put-key (seven 2) 30 .events) ∷ [])
     ∷ []
 
 -- "capacity 0 and 40,001: 7"; "capacity 1 in 87 words: 8; in 88: formatted"; "list of 371 words: 1"
 unfoldable pub refusal-rows : List Row
 refusal-rows =
-    says (7, []) (format-says (format list-words 88 0 .answer))
-    ∷ says (7, []) (format-says (format list-words 88 40001 .answer))
-    ∷ says (8, []) (format-says (format list-words 87 1 .answer))
-    ∷ says (0, 20 ∷ []) (format-says (format list-words 88 1 .answer))
-    ∷ says (1, []) (format-says (format 371 88 1 .answer))
-    ∷ says (1, []) (recovery-says (recover 371 (fresh 1) .answer))
-    ∷ says (1, []) (outcome-says (put 371 (fresh 1) 10 10 .answer))
-    ∷ says (1, []) (outcome-says (delete 371 (fresh 1) 10 .answer))
+    says (k.refused, 7, []) (format-says (format list-words 88 0 .answer))
+    ∷ says (k.refused, 7, []) (format-says (format list-words 88 40001 .answer))
+    ∷ says (k.refused, 8, []) (format-says (format list-words 87 1 .answer))
+    ∷ says (k.formatted, 0, 20 ∷ []) (format-says (format list-words 88 1 .answer))
+    ∷ says (k.refused, 1, []) (format-says (format 371 88 1 .answer))
+    ∷ says (k.refused, 1, []) (recovery-says (recover 371 (fresh 1) .answer))
+    ∷ says (k.refused, 1, []) (outcome-says (put 371 (fresh 1) 10 10 .answer))
+    ∷ says (k.refused, 1, []) (outcome-says (delete 371 (fresh 1) 10 .answer))
     ∷ []
 
 -- "put of 7 events cut after 4: before only; after 5 or 6: either; after 7: after only"
