@@ -19,6 +19,7 @@ use Rattle.tree.specs.Check as t
 use Rattle.tree.proofs.Form.{Form, form, Counts, counts}
 use Rattle.change.specs.declared.Checked.{Checked}
 use Rattle.change.specs.declared.Checked.the-variants as checked
+use Rattle.change.specs.Answers.{check-says}
 use Rattle.change.specs.Check.{walked, Examined, refuse, check-past-gate, check}
 use Rattle.pool.specs.declared.checking.Seen.{Seen}
 use Rattle.pool.specs.declared.checking.Walk.{Walk}
@@ -27,7 +28,8 @@ use Rattle.pool.specs.Checking.{seen-with, Ready, Walks, Passed}
 use Rattle.pool.proofs.Marks.{unmarked-most}
 
 -- what is answered and left is what is examined
-pub examined : {e : Examined} {a : Checked} {l : List ℕ} → e ≡ record { answer = a; marks = l } → (a ≡ e .answer) × (l ≡ e .marks)
+pub examined : {e : Examined} {a : Checked} {l : List ℕ} → e ≡ record { answer = a; marks = l }
+    → (check-says a ≡ check-says (e .answer)) × (l ≡ e .marks)
 examined is = rw is (refl, refl)
 
 module _ (m marks : List ℕ) where

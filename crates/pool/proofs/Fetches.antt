@@ -18,27 +18,28 @@ use Rattle.tree.proofs.Find.{find-absent}
 use Rattle.tree.proofs.Leaves.{found-value}
 use Rattle.change.specs.declared.Outcome.{Outcome}
 use Rattle.change.specs.declared.Outcome.the-variants.{Absent, Found, Refused}
+use Rattle.change.specs.Answers.{outcome-says}
 use Rattle.change.specs.Gate.{Planned, quiet, refused, at-leaf}
 use Rattle.change.specs.Fetch.{fetch-at, fetch}
-use Rattle.change.specs.Calls.{fetch-answer}
 use Rattle.pool.specs.declared.gate.Gate.the-variants as g
+use Rattle.pool.specs.Promises.{FetchPromise}
 use Rattle.pool.specs.Passing.{Admitted, Gated}
 use Rattle.pool.proofs.Gates.{found-leaf, gate-at}
 
 module _ (m : List ℕ) (key : ℕ) where
-  says : {o : Outcome} → fetch m key ≡ quiet o → o ≡ fetch-answer m key
-  says e = sym (ap (λ (p : Planned Outcome). p .answer) e)
+  says : (o : Outcome) → fetch m key ≡ quiet o → FetchPromise m key o
+  says o e = sym (ap (λ (p : Planned Outcome). outcome-says (p .answer)) e)
 
-  pub fetch-shut : {why : Refusal} → Gated m key (g.Refused why) → Refused why ≡ fetch-answer m key
-  fetch-shut p = says (p (fetch-at m key))
+  pub fetch-shut : {why : Refusal} → Gated m key (g.Refused why) → FetchPromise m key (Refused why)
+  fetch-shut {why} p = says (Refused why) (p (fetch-at m key))
 
   module _ {s : Seat} (p : Admitted m key s) where
-    pub fetch-absent : s .there ≡ false → Absent ≡ fetch-answer m key
-    fetch-absent n = says (gate-at p (fetch-at m key) ∙ rw (find-absent key _ (sym (p .seated .there-is) ∙ n)) refl)
+    pub fetch-absent : s .there ≡ false → FetchPromise m key Absent
+    fetch-absent n = says Absent (gate-at p (fetch-at m key) ∙ rw (find-absent key _ (sym (p .seated .there-is) ∙ n)) refl)
 
     pub fetch-found : s .there ≡ true → {e v : ℕ} → e ≡ getD (names (s .slot)) (s .rank) 0
-        → v ≡ at m (value-at (s .leaf) e) → Found v ≡ fetch-answer m key
-    fetch-found h e v = says (gate-at p (fetch-at m key) ∙ rw (found-value (found-leaf p) h e v) refl)
+        → v ≡ at m (value-at (s .leaf) e) → FetchPromise m key (Found v)
+    fetch-found h {e} {v} x y = says (Found v) (gate-at p (fetch-at m key) ∙ rw (found-value (found-leaf p) h x y) refl)
 
 -- a fetch plans nothing, whatever it answers
 pub fetch-quiet : (m : List ℕ) (key : ℕ) → fetch m key ≡ quiet (fetch m key .answer)

@@ -9,6 +9,8 @@ use native.Mathlib.Omega.{arith}
 use lib.ListN.{length, take, replicate, length-replicate}
 use lib.Dec.{T, eqb}
 use Rattle.words.specs.Pool.{list-words, capacity-most, total-of}
+use Rattle.words.specs.Kinds as k
+use Rattle.words.specs.Answers.{Said}
 use Rattle.words.specs.Event.{at, run}
 use Rattle.words.specs.Cuts.{Found, first}
 use Rattle.words.specs.declared.refusal.Refusal.the-variants.{NoRoom}
@@ -20,7 +22,7 @@ use Rattle.tree.specs.Map.{map-of}
 use Rattle.change.specs.declared.Request.the-variants.{Put}
 use Rattle.change.specs.declared.Outcome.{Outcome}
 use Rattle.change.specs.declared.Outcome.the-variants.{New, Replaced, Refused}
-use Rattle.change.specs.Answers.{Said, outcome-says}
+use Rattle.change.specs.Answers.{outcome-says}
 use Rattle.change.specs.Gate.{Planned, refused}
 use Rattle.change.specs.Recover.{recovery}
 use Rattle.change.specs.Room.{LacksRoom}
@@ -65,7 +67,7 @@ module _ (l : List ℕ) (size : length l ≡ list-words) where
       (omega arith, (omega arith, (omega arith, (omega arith, (omega arith, (omega arith, (omega arith, tt)))))))
 
   -- "80 into the full leaf": new
-  answer-new : New ≡ put-key (seven 3) 80 .answer
+  answer-new : (k.new, 0, []) ≡ outcome-says (put-key (seven 3) 80 .answer)
   unfolding rows leaf-rows split-rows room-rows
   answer-new = sums .1 .1 .1 .1 .1 .1 .1 .1 .1 .1 .0
 
@@ -74,8 +76,9 @@ module _ (l : List ℕ) (size : length l ≡ list-words) where
     where
       not-refused : put (length l) (seven 3) 80 80 ≡ refused NoRoom → ⊥
       not-refused e =
-          let k : New ≡ Refused NoRoom = answer-new ∙ ap (λ (q : Planned Outcome). q .answer) (rw size at e) in
-          let z : _≡_ {A = ℕ} 0 1 = cc in omega arith
+          let x : (k.new, 0, []) ≡ outcome-says (Refused NoRoom)
+          = answer-new ∙ ap (λ (q : Planned Outcome). outcome-says (q .answer)) (rw size at e) in
+          omega (arith, ap (λ (s : Said). s .0) x)
 
       go : Served (seven 3) l (Put 80 80)
           → Changes (seven 3) l (put (length l) (seven 3) 80 80) (map-of (seven 3)) (changed 80 (some 80) (map-of (seven 3)))
@@ -83,7 +86,7 @@ module _ (l : List ℕ) (size : length l ≡ list-words) where
       go (done n a c) = c
 
   -- "capacity 2, leaf full, new key: refusal 5"
-  answer-five : (5, []) ≡ outcome-says (put-key (seven 2) 80 .answer)
+  answer-five : (k.refused, 5, []) ≡ outcome-says (put-key (seven 2) 80 .answer)
   unfolding rows leaf-rows split-rows room-rows
   answer-five = sums .1 .1 .1 .1 .1 .1 .1 .1 .1 .0
 
@@ -92,11 +95,11 @@ module _ (l : List ℕ) (size : length l ≡ list-words) where
     where
       by-rule : (o : Option ℕ) → put (length l) (seven 2) 80 80 .answer ≡ by-presence New Replaced o → ⊥
       by-rule none e =
-          let k : (5, []) ≡ outcome-says New = answer-five ∙ ap outcome-says (rw size at e) in
-          omega (arith, ap (λ (s : Said). s .0) k)
+          let x : (k.refused, 5, []) ≡ outcome-says New = answer-five ∙ ap outcome-says (rw size at e) in
+          omega (arith, ap (λ (s : Said). s .0) x)
       by-rule (some v) e =
-          let k : (5, []) ≡ outcome-says Replaced = answer-five ∙ ap outcome-says (rw size at e) in
-          omega (arith, ap (λ (s : Said). s .0) k)
+          let x : (k.refused, 5, []) ≡ outcome-says Replaced = answer-five ∙ ap outcome-says (rw size at e) in
+          omega (arith, ap (λ (s : Said). s .0) x)
 
       go : Served (seven 2) l (Put 80 80) → LacksRoom (seven 2) 80
       go (no-room c e) = c

@@ -10,6 +10,10 @@ use Rattle.change.specs.declared.Outcome.{Outcome}
 use Rattle.change.specs.declared.Answer.{Answer}
 use Rattle.change.specs.Gate.{Planned, quiet, list-after, answered}
 
+-- what is answered says what the promise says of it
+pub said : {A B : Type 0} (says : A → B) {r a : A} {l x : List ℕ} → (r ≡ a) × (l ≡ x) → (says r ≡ says a) × (l ≡ x)
+said says h = (ap says (h .0), h .1)
+
 -- no events: the list is as it was
 pub quietly : {A : Type 0} (p : Planned A) (a : A) (l : List ℕ) → p ≡ quiet a → (a ≡ p .answer) × (l ≡ list-after p l)
 unfolding written

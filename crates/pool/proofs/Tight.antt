@@ -1,45 +1,51 @@
--- "The team proves that two outcomes allowed by the promise coincide": for each call, with the same memory lent and the same request.
-use Prim.Native.Nat.{ℕ}
+-- "The team proves that two outcomes allowed by the promise coincide": of what a caller learns by each contract, with the same words lent
+-- and the same request. The pool is lent only to read; the list, and the marks of check, are the second parameter.
 use mathlib.Core.Path.{_≡_, sym, _∙_}
-use mathlib.Core.List.{List}
-use Rattle.words.specs.declared.carry.Carried.{Carried}
-use Rattle.change.specs.declared.Request.{Request}
-use Rattle.change.specs.declared.Outcome.{Outcome}
-use Rattle.change.specs.declared.Answer.{Answer}
-use Rattle.change.specs.declared.Formatted.{Formatted}
-use Rattle.change.specs.declared.Recovery.{Recovery}
-use Rattle.change.specs.declared.Checked.{Checked}
-use Rattle.pool.specs.Promises as p
+use contract.Lifetimes.{Lfts}
+use borrow.Fn.World.{ArgsD, ResD}
+use denote.Triple.Clauses.{AtExit}
+use denote.Ref.{now}
+use Rattle.words.proofs.Answers.{one-outcome}
+use Rattle.change.proofs.Answers.{outcome-told, answer-told, format-told, recovery-told, check-told}
+use Rattle.pool.proofs.formatting.format as format
+use Rattle.pool.proofs.formatting.format.Reads as format-reads
+use Rattle.pool.proofs.recovering.recover as recover
+use Rattle.pool.proofs.recovering.recover.Reads as recover-reads
+use Rattle.pool.proofs.putting.put as put
+use Rattle.pool.proofs.putting.put.Reads as put-reads
+use Rattle.pool.proofs.deleting.delete as delete
+use Rattle.pool.proofs.deleting.delete.Reads as delete-reads
+use Rattle.pool.proofs.serving.serve as serve
+use Rattle.pool.proofs.serving.serve.Reads as serve-reads
+use Rattle.pool.proofs.checking.check as check
+use Rattle.pool.proofs.checking.check.Reads as check-reads
+use Rattle.pool.proofs.fetching.fetch as fetch
+use Rattle.pool.proofs.fetching.fetch.Reads as fetch-reads
 
--- an answer and a list that are given leave no choice
-one-outcome : {A : Type 0} {a r s : A} {x l k : List ℕ} → (r ≡ a) × (l ≡ x) → (s ≡ a) × (k ≡ x) → (r ≡ s) × (l ≡ k)
-one-outcome h k = (h .0 ∙ sym (k .0), h .1 ∙ sym (k .1))
+pub format-tight : (κs : Lfts 2) (a : ArgsD format.signature κs) (r s : ResD format.signature κs) (x y : AtExit format.ended κs)
+    → format-reads.Learnt κs a r x → format-reads.Learnt κs a s y → (r ≡ s) × (now (x .1 .0) ≡ now (y .1 .0))
+format-tight κs a r s x y = one-outcome format-told
 
-module _ (m l : List ℕ) where
-  pub format-tight : (capacity : ℕ) (r s : Formatted) (x y : List ℕ) → p.FormatPromise m l capacity r x
-      → p.FormatPromise m l capacity s y → (r ≡ s) × (x ≡ y)
-  format-tight capacity r s x y = one-outcome
+pub recover-tight : (κs : Lfts 2) (a : ArgsD recover.signature κs) (r s : ResD recover.signature κs) (x y : AtExit recover.ended κs)
+    → recover-reads.Learnt κs a r x → recover-reads.Learnt κs a s y → (r ≡ s) × (now (x .1 .0) ≡ now (y .1 .0))
+recover-tight κs a r s x y = one-outcome recovery-told
 
-  pub recover-tight : (r s : Recovery) (x y : List ℕ) → p.RecoverPromise m l r x → p.RecoverPromise m l s y → (r ≡ s) × (x ≡ y)
-  recover-tight r s x y = one-outcome
+pub put-tight : (κs : Lfts 2) (a : ArgsD put.signature κs) (r s : ResD put.signature κs) (x y : AtExit put.ended κs)
+    → put-reads.Learnt κs a r x → put-reads.Learnt κs a s y → (r ≡ s) × (now (x .1 .0) ≡ now (y .1 .0))
+put-tight κs a r s x y = one-outcome answer-told
 
-  pub put-tight : (key value : ℕ) (r s : Answer) (x y : List ℕ) → p.PutPromise m l key value r x → p.PutPromise m l key value s y
-      → (r ≡ s) × (x ≡ y)
-  put-tight key value r s x y = one-outcome
+pub delete-tight : (κs : Lfts 2) (a : ArgsD delete.signature κs) (r s : ResD delete.signature κs) (x y : AtExit delete.ended κs)
+    → delete-reads.Learnt κs a r x → delete-reads.Learnt κs a s y → (r ≡ s) × (now (x .1 .0) ≡ now (y .1 .0))
+delete-tight κs a r s x y = one-outcome answer-told
 
-  pub delete-tight : (key : ℕ) (r s : Answer) (x y : List ℕ) → p.DeletePromise m l key r x → p.DeletePromise m l key s y
-      → (r ≡ s) × (x ≡ y)
-  delete-tight key r s x y = one-outcome
+pub serve-tight : (κs : Lfts 2) (a : ArgsD serve.signature κs) (r s : ResD serve.signature κs) (x y : AtExit serve.ended κs)
+    → serve-reads.Learnt κs a r x → serve-reads.Learnt κs a s y → (r ≡ s) × (now (x .1 .0) ≡ now (y .1 .0))
+serve-tight κs a r s x y = one-outcome answer-told
 
-  pub serve-tight : (q : Request) (r s : Answer) (x y : List ℕ) → p.ServePromise m l q r x → p.ServePromise m l q s y
-      → (r ≡ s) × (x ≡ y)
-  serve-tight q r s x y = one-outcome
+pub check-tight : (κs : Lfts 2) (a : ArgsD check.signature κs) (r s : ResD check.signature κs) (x y : AtExit check.ended κs)
+    → check-reads.Learnt κs a r x → check-reads.Learnt κs a s y → (r ≡ s) × (now (x .1 .0) ≡ now (y .1 .0))
+check-tight κs a r s x y = one-outcome check-told
 
-  pub check-tight : (r s : Checked) (x y : List ℕ) → p.CheckPromise m l r x → p.CheckPromise m l s y → (r ≡ s) × (x ≡ y)
-  check-tight r s x y = one-outcome
-
-  pub carry-tight : (n : ℕ) (r s : Carried) (x y : List ℕ) → p.CarryPromise m l n r x → p.CarryPromise m l n s y → (r ≡ s) × (x ≡ y)
-  carry-tight n r s x y = one-outcome
-
-pub fetch-tight : (m : List ℕ) (key : ℕ) (r s : Outcome) → p.FetchPromise m key r → p.FetchPromise m key s → r ≡ s
-fetch-tight m key r s h k = h ∙ sym k
+pub fetch-tight : (κs : Lfts 1) (a : ArgsD fetch.signature κs) (r s : ResD fetch.signature κs) (x y : AtExit fetch.ended κs)
+    → fetch-reads.Learnt κs a r x → fetch-reads.Learnt κs a s y → r ≡ s
+fetch-tight κs a r s x y h k = outcome-told _ _ (h ∙ sym k)

@@ -22,7 +22,7 @@ ghost use Rattle.tree.specs.Header as h;
 ghost use Rattle.tree.specs.Kids.{kid, below-root-least};
 ghost use Rattle.tree.specs.Check as t;
 ghost use Rattle.change.specs.Check.{walked};
-ghost use Rattle.change.specs.Calls.{check-answer, check-marks};
+ghost use Rattle.pool.specs.Promises.{CheckPromise};
 ghost use Rattle.pool.specs.Checking.{kid-of, kids-left, seen-with, leaf-walk, Room, Marked, Leaf, Ready, Slots, Walks, Passed};
 
 // A child's number, and the keys that it covers.
@@ -259,8 +259,7 @@ fn check_tree(pool: &[u64], marks: &mut [u8]) -> Checked
 
 // Whether the pool is well formed, with its nodes and records, or the first fault. The marks tell which numbers were met.
 pub fn check(pool: &[u64], marks: &mut [u8]) -> Checked
-    ensures answer { λ r. ⌜ r ≡ check-answer (now (pool .entry)) (now (marks .entry)) ⌝ }
-    ensures marks { λ _. ⌜ now (marks .exit) ≡ check-marks (now (pool .entry)) (now (marks .entry)) ⌝ }
+    ensures { λ r. ⌜ CheckPromise (now (pool .entry)) (now (marks .entry)) r (now (marks .exit)) ⌝ }
 {
     if !form_agrees(pool) {
         return Checked::Refused(Refusal::NoPool);

@@ -8,12 +8,10 @@ use node::slot::without_name;
 use words::Pool;
 use words::Refusal;
 use words::write_once;
-ghost use mathlib.Core.Path.{_≡_};
-ghost use Rattle.change.specs.Calls.{delete-answer, delete-list};
+ghost use Rattle.pool.specs.Promises.{DeletePromise};
 
 pub fn delete(pool: &[u64], list: &mut [u64], key: u64) -> Answer
-    ensures answer { λ r. ⌜ r ≡ delete-answer (now (pool .entry)) (now (list .entry)) key ⌝ }
-    ensures list { λ _. ⌜ now (list .exit) ≡ delete-list (now (pool .entry)) (now (list .entry)) key ⌝ }
+    ensures { λ r. ⌜ DeletePromise (now (pool .entry)) (now (list .entry)) key r (now (list .exit)) ⌝ }
 {
     if (list.len() as u64) < Pool::LIST_WORDS {
         return quiet(Outcome::Refused(Refusal::ShortList));

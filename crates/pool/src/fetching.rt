@@ -4,11 +4,10 @@ use crate::gate::pass_gate;
 use change::Outcome;
 use node::layout::record_value;
 use node::slot::name;
-ghost use mathlib.Core.Path.{_≡_};
-ghost use Rattle.change.specs.Calls.{fetch-answer};
+ghost use Rattle.pool.specs.Promises.{FetchPromise};
 
 pub fn fetch(pool: &[u64], key: u64) -> Outcome
-    ensures { λ r. ⌜ r ≡ fetch-answer (now (pool .entry)) key ⌝ }
+    ensures { λ r. ⌜ FetchPromise (now (pool .entry)) key r ⌝ }
 {
     let gate = pass_gate(pool, key);
     match gate {

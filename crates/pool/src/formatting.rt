@@ -7,12 +7,11 @@ use words::write_flush;
 use words::write_once;
 use words::write_store;
 ghost use Prim.Native.Nat.{_+_, _≤_};
-ghost use mathlib.Core.Path.{_≡_};
 ghost use lib.ListN.{length};
 ghost use Rattle.words.specs.Pool as p;
 ghost use Rattle.words.specs.Written.{Wrote};
-ghost use Rattle.change.specs.Calls.{format-answer, format-list};
 ghost use Rattle.change.specs.Format.{format-events};
+ghost use Rattle.pool.specs.Promises.{FormatPromise};
 ghost use Rattle.pool.specs.Formatting.{header-events, leaf-events};
 
 // The header's words 1 to 7.
@@ -55,8 +54,7 @@ fn format_events(list: &mut [u64], capacity: u64) -> u64
 
 // Plans an empty pool of a capacity into the list. It reads nothing of the slice but its length.
 pub fn format(pool: &[u64], list: &mut [u64], capacity: u64) -> Formatted
-    ensures answer { λ r. ⌜ r ≡ format-answer (now (pool .entry)) (now (list .entry)) capacity ⌝ }
-    ensures list { λ _. ⌜ now (list .exit) ≡ format-list (now (pool .entry)) (now (list .entry)) capacity ⌝ }
+    ensures { λ r. ⌜ FormatPromise (now (pool .entry)) (now (list .entry)) capacity r (now (list .exit)) ⌝ }
 {
     if (list.len() as u64) < Pool::LIST_WORDS {
         return Formatted::Refused(Refusal::ShortList);

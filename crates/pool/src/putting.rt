@@ -25,7 +25,7 @@ ghost use Rattle.words.specs.Pool as p;
 ghost use Rattle.node.specs.Lists.{all-below};
 ghost use Rattle.node.specs.Slot as s;
 ghost use Rattle.change.specs.Gate.{answered, list-after};
-ghost use Rattle.change.specs.Calls.{put-answer, put-list};
+ghost use Rattle.pool.specs.Promises.{PutPromise};
 ghost use Rattle.pool.specs.Passing.{Admitted};
 ghost use Rattle.pool.specs.Puts.{Replaces, Fills, put-there};
 
@@ -77,8 +77,7 @@ fn put_at(pool: &[u64], list: &mut [u64], seat: Seat, key: u64, value: u64) -> A
 }
 
 pub fn put(pool: &[u64], list: &mut [u64], key: u64, value: u64) -> Answer
-    ensures answer { λ r. ⌜ r ≡ put-answer (now (pool .entry)) (now (list .entry)) key value ⌝ }
-    ensures list { λ _. ⌜ now (list .exit) ≡ put-list (now (pool .entry)) (now (list .entry)) key value ⌝ }
+    ensures { λ r. ⌜ PutPromise (now (pool .entry)) (now (list .entry)) key value r (now (list .exit)) ⌝ }
 {
     if (list.len() as u64) < Pool::LIST_WORDS {
         return quiet(Outcome::Refused(Refusal::ShortList));

@@ -9,7 +9,7 @@ ghost use mathlib.Core.Path.{_≡_};
 ghost use lib.ListN.{length};
 ghost use Rattle.words.specs.Pool as p;
 ghost use Rattle.change.specs.Recover as s;
-ghost use Rattle.change.specs.Calls.{recover-answer, recover-list};
+ghost use Rattle.pool.specs.Promises.{RecoverPromise};
 
 // Whether recovery may store to a word: used, root, height, or a word of a node.
 fn may_store(total: u64, word: u64) -> bool
@@ -50,8 +50,7 @@ fn log_agrees(pool: &[u64]) -> bool
 
 // Plans the rest of an unfinished change. Root and used are not looked at: a cut may have left them apart.
 pub fn recover(pool: &[u64], list: &mut [u64]) -> Recovery
-    ensures answer { λ r. ⌜ r ≡ recover-answer (now (pool .entry)) (now (list .entry)) ⌝ }
-    ensures list { λ _. ⌜ now (list .exit) ≡ recover-list (now (pool .entry)) (now (list .entry)) ⌝ }
+    ensures { λ r. ⌜ RecoverPromise (now (pool .entry)) (now (list .entry)) r (now (list .exit)) ⌝ }
 {
     if (list.len() as u64) < Pool::LIST_WORDS {
         return Recovery::Refused(Refusal::ShortList);

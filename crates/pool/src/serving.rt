@@ -5,12 +5,10 @@ use crate::fetching::fetch;
 use crate::putting::put;
 use change::Answer;
 use change::Request;
-ghost use mathlib.Core.Path.{_≡_};
-ghost use Rattle.change.specs.Calls.{serve-answer, serve-list};
+ghost use Rattle.pool.specs.Promises.{ServePromise};
 
 pub fn serve(pool: &[u64], list: &mut [u64], request: Request) -> Answer
-    ensures answer { λ r. ⌜ r ≡ serve-answer (now (pool .entry)) (now (list .entry)) request ⌝ }
-    ensures list { λ _. ⌜ now (list .exit) ≡ serve-list (now (pool .entry)) (now (list .entry)) request ⌝ }
+    ensures { λ r. ⌜ ServePromise (now (pool .entry)) (now (list .entry)) request r (now (list .exit)) ⌝ }
 {
     match request {
         Request::Put(key, value) => put(pool, list, key, value),

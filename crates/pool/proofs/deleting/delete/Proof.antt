@@ -3,7 +3,8 @@ use borrow.Author.Needs.{needs}
 use mathlib.Core.Path.{_∙_}
 use borrow.Author.Tests.{not-true, not-false}
 use Rattle.tree.proofs.Leaves.{rank-there}
-use Rattle.pool.proofs.Planning.{quiet-answer, planned-answer}
+use Rattle.change.specs.Answers.{answer-says}
+use Rattle.pool.proofs.Planning.{said, quiet-answer, planned-answer}
 use Rattle.pool.proofs.Gates.{shut, admitted, found-leaf, call-short, call-shut, call-at}
 use Rattle.pool.proofs.Deletes.{delete-absent, delete-removed}
 use Rattle.pool.proofs.deleting.delete.Statement.{statement}
@@ -13,7 +14,7 @@ quiet-requires : tie.Need-quiet-requires
 quiet-requires c κs = search needs
 
 returns : tie.Need-returns
-returns c = quiet-answer _ _ _ (c .quiet .ensures) (call-short _ _ _ _ (c .before .if1 .taken))
+returns c = said answer-says (quiet-answer _ _ _ (c .quiet .ensures) (call-short _ _ _ _ (c .before .if1 .taken)))
 
 pass-gate-requires : tie.Need-pass-gate-requires
 pass-gate-requires c κs = search needs
@@ -36,8 +37,8 @@ returns-2 c =
     let v = t .before .before .before in
     let g = v .before .before in
     let p = admitted _ _ (g .pass-gate .ensures) (v .gate2 .given .1) in
-    quiet-answer _ _ _ (c .quiet3 .ensures)
-    (call-at _ _ _ _ (g .before .if1 .left) p ∙ delete-absent (found-leaf p) _ (not-true _ (t .if2 .taken)))
+    said answer-says (quiet-answer _ _ _ (c .quiet3 .ensures)
+    (call-at _ _ _ _ (g .before .if1 .left) p ∙ delete-absent (found-leaf p) _ (not-true _ (t .if2 .taken))))
 
 without-name-requires : tie.Need-without-name-requires
 without-name-requires c κs =
@@ -60,8 +61,8 @@ returns-3 : tie.Need-returns-3
 returns-3 c =
     let v = c .before .before in
     let g = v .before .before in
-    quiet-answer _ _ _ (c .quiet2 .ensures)
-    (call-shut _ _ _ _ (g .before .if1 .left) (shut _ _ (g .pass-gate .ensures) (v .gate .given .1)))
+    said answer-says (quiet-answer _ _ _ (c .quiet2 .ensures)
+    (call-shut _ _ _ _ (g .before .if1 .left) (shut _ _ (g .pass-gate .ensures) (v .gate .given .1))))
 
 same-length : tie.Need-same-length
 same-length c = search needs
@@ -76,7 +77,7 @@ returns-4 c =
     let g = v .before .before in
     let p = admitted _ _ (g .pass-gate .ensures) (v .gate2 .given .1) in
     let e = delete-removed (found-leaf p) _ (not-false _ (t .if2 .left)) (n .node-at .ensures) (s .without-name .ensures) in
-    planned-answer _ _ _ (call-at _ _ _ _ (g .before .if1 .left) p ∙ e) (w .write-once .ensures)
+    said answer-says (planned-answer _ _ _ (call-at _ _ _ _ (g .before .if1 .left) p ∙ e) (w .write-once .ensures))
 
 pub delete-spec : {M : Type 1} → statement M
 delete-spec =

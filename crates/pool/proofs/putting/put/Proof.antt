@@ -1,6 +1,7 @@
 -- `pool::put` meets its contract: each return goes by the tests before it.
 use borrow.Author.Needs.{needs}
-use Rattle.pool.proofs.Planning.{quiet-answer, passed-on}
+use Rattle.change.specs.Answers.{answer-says}
+use Rattle.pool.proofs.Planning.{said, quiet-answer, passed-on}
 use Rattle.pool.proofs.Gates.{shut, admitted, call-short, call-shut, call-at}
 use Rattle.pool.proofs.putting.put.Statement.{statement}
 use Rattle.pool.proofs.putting.put.Tie as tie
@@ -9,7 +10,7 @@ quiet-requires : tie.Need-quiet-requires
 quiet-requires c κs = search needs
 
 returns : tie.Need-returns
-returns c = quiet-answer _ _ _ (c .quiet .ensures) (call-short _ _ _ _ (c .before .if1 .taken))
+returns c = said answer-says (quiet-answer _ _ _ (c .quiet .ensures) (call-short _ _ _ _ (c .before .if1 .taken)))
 
 pass-gate-requires : tie.Need-pass-gate-requires
 pass-gate-requires c κs = search needs
@@ -33,8 +34,8 @@ returns-2 : tie.Need-returns-2
 returns-2 c =
     let v = c .before .before in
     let g = v .before .before in
-    quiet-answer _ _ _ (c .quiet2 .ensures)
-    (call-shut _ _ _ _ (g .before .if1 .left) (shut _ _ (g .pass-gate .ensures) (v .gate .given .1)))
+    said answer-says (quiet-answer _ _ _ (c .quiet2 .ensures)
+    (call-shut _ _ _ _ (g .before .if1 .left) (shut _ _ (g .pass-gate .ensures) (v .gate .given .1))))
 
 same-length : tie.Need-same-length
 same-length c = search needs
@@ -45,7 +46,7 @@ returns-3 c =
     let v = s .before .before .before in
     let g = v .before .before in
     let p = admitted _ _ (g .pass-gate .ensures) (v .gate2 .given .1) in
-    passed-on _ _ _ (call-at _ _ _ _ (g .before .if1 .left) p) (s .put-at .ensures)
+    said answer-says (passed-on _ _ _ (call-at _ _ _ _ (g .before .if1 .left) p) (s .put-at .ensures))
 
 pub put-spec : {M : Type 1} → statement M
 put-spec =

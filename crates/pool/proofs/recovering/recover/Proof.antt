@@ -7,8 +7,9 @@ use borrow.Author.Tests.{not-true, not-false}
 use Rattle.tree.specs.Header.{commit-of, form-agrees}
 use Rattle.tree.proofs.Form.{form}
 use Rattle.change.specs.declared.Recovery.the-variants.{Recovered}
+use Rattle.change.specs.Answers.{recovery-says}
 use Rattle.change.specs.Recover.{log-agrees}
-use Rattle.pool.proofs.Planning.{quietly, planned}
+use Rattle.pool.proofs.Planning.{said, quietly, planned}
 use Rattle.pool.proofs.Recovers.{recover-short, recover-no-pool, recover-clean, recover-bad-log, recover-done}
 use Rattle.pool.proofs.Recovers.{log-fits, log-near}
 use Rattle.pool.proofs.recovering.recover.Statement.{statement}
@@ -21,7 +22,7 @@ log-ok : (c : tie.Else4) → log-agrees (c .before .before .before .before .befo
 log-ok c = sym (c .before .log-agrees .ensures) ∙ not-false _ (c .if4 .left)
 
 returns : tie.Need-returns
-returns c = quietly _ _ _ (recover-short _ _ (c .if1 .taken))
+returns c = said recovery-says (quietly _ _ _ (recover-short _ _ (c .if1 .taken)))
 
 form-agrees-requires : tie.Need-form-agrees-requires
 form-agrees-requires c κs = search needs
@@ -29,7 +30,8 @@ form-agrees-requires c κs = search needs
 returns-2 : tie.Need-returns-2
 returns-2 c =
     let g = c .before in
-    quietly _ _ _ (recover-no-pool _ _ (g .before .if1 .left) (sym (g .form-agrees .ensures) ∙ not-true _ (c .if2 .taken)))
+    let none = sym (g .form-agrees .ensures) ∙ not-true _ (c .if2 .taken) in
+    said recovery-says (quietly _ _ _ (recover-no-pool _ _ (g .before .if1 .left) none))
 
 mul-pairs : tie.Need-mul-pairs
 mul-pairs c = search needs
@@ -40,7 +42,7 @@ shared-slice-read-pairs c = let h = form _ (is-pool (c .before)) .least in omega
 returns-3 : tie.Need-returns-3
 returns-3 c =
     let g = c .before .before in
-    quietly _ _ _ (recover-clean _ _ (g .before .before .if1 .left) (is-pool g) (c .if3 .taken))
+    said recovery-says (quietly _ _ _ (recover-clean _ _ (g .before .before .if1 .left) (is-pool g) (c .if3 .taken)))
 
 log-agrees-requires : tie.Need-log-agrees-requires
 log-agrees-requires c κs = form _ (is-pool (c .before .before)) .least
@@ -50,7 +52,7 @@ returns-4 c =
     let n = c .before .before in
     let g = n .before .before in
     let bad = sym (c .before .log-agrees .ensures) ∙ not-true _ (c .if4 .taken) in
-    quietly _ _ _ (recover-bad-log _ _ (g .before .before .if1 .left) (is-pool g) (n .if3 .left) bad)
+    said recovery-says (quietly _ _ _ (recover-bad-log _ _ (g .before .before .if1 .left) (is-pool g) (n .if3 .left) bad))
 
 finish-log-requires : tie.Need-finish-log-requires
 finish-log-requires c κs =
@@ -69,7 +71,8 @@ returns-5 c =
     let n = t .before .before in
     let g = n .before .before in
     let e = recover-done _ _ (g .before .before .if1 .left) (is-pool g) (n .if3 .left) (log-ok t) in
-    planned _ (Recovered (commit-of (g .before .before .before .before .before .args .pool .now))) _ e (o .finish-log .ensures)
+    said recovery-says
+    (planned _ (Recovered (commit-of (g .before .before .before .before .before .args .pool .now))) _ e (o .finish-log .ensures))
 
 pub recover-spec : {M : Type 1} → statement M
 recover-spec =

@@ -1,7 +1,11 @@
 -- `pool::serve` meets its contract: each request is its own call's.
-use mathlib.Core.Path.{_∙_}
+use mathlib.Core.Path.{_∙_, ap}
 use borrow.Author.Needs.{needs}
-use Rattle.pool.proofs.Planning.{quiet-answer}
+use Rattle.change.specs.declared.Outcome.{Outcome}
+use Rattle.change.specs.Answers.{answer-says}
+use Rattle.change.specs.Gate.{quiet, answered}
+use Rattle.change.proofs.Answers.{outcome-told}
+use Rattle.pool.proofs.Planning.{said, quiet-answer}
 use Rattle.pool.proofs.Fetches.{fetch-quiet}
 use Rattle.pool.proofs.serving.serve.Statement.{statement}
 use Rattle.pool.proofs.serving.serve.Tie as tie
@@ -38,8 +42,8 @@ returns c =
 returns-2 : tie.Need-returns-2
 returns-2 c =
     let f = c .before in
-    rw (f .before .before .request2 .given .1)
-    (quiet-answer _ _ _ (c .quiet .ensures ∙ rw (f .fetch .ensures)) (fetch-quiet _ _))
+    let a = c .quiet .ensures ∙ ap (λ (o : Outcome). answered (quiet o)) (outcome-told _ _ (f .fetch .ensures)) in
+    rw (f .before .before .request2 .given .1) (said answer-says (quiet-answer _ _ _ a (fetch-quiet _ _)))
 
 same-length-2 : tie.Need-same-length-2
 same-length-2 c = search needs
