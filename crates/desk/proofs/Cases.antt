@@ -3,6 +3,7 @@ use Prim.Native.Nat.{ℕ}
 use mathlib.Core.Path.{_≡_, refl}
 use mathlib.Core.List.{List, [], _∷_}
 use lib.ListN.{replicate}
+use Rattle.words.specs.Kinds as k
 use Rattle.change.specs.declared.Request.{Request}
 use Rattle.desk.specs.declared.desk.Desk.the-variants.{Empty, Holding}
 use Rattle.desk.specs.Desk.{first-full, choose}
@@ -11,20 +12,20 @@ use Rattle.desk.specs.Answers.{submit-says, turn-says}
 
 module _ (q : Request) where
   -- 9 "desk list empty or over 16; .. member 0 or past it", also where the desk is full; then 10
-  pub submits : (submit-says (submit-answer [] 1) ≡ (9, []))
-      × (submit-says (submit-answer (replicate 17 (Holding q)) 1) ≡ (9, []))
-      × (submit-says (submit-answer (Holding q ∷ Empty ∷ []) 0) ≡ (9, []))
-      × (submit-says (submit-answer (Holding q ∷ Empty ∷ []) 3) ≡ (9, []))
-      × (submit-says (submit-answer (Holding q ∷ Empty ∷ []) 1) ≡ (10, []))
-      × (submit-says (submit-answer (Holding q ∷ Empty ∷ []) 2) ≡ (0, []))
+  pub submits : (submit-says (submit-answer [] 1) ≡ (k.refused, 9, []))
+      × (submit-says (submit-answer (replicate 17 (Holding q)) 1) ≡ (k.refused, 9, []))
+      × (submit-says (submit-answer (Holding q ∷ Empty ∷ []) 0) ≡ (k.refused, 9, []))
+      × (submit-says (submit-answer (Holding q ∷ Empty ∷ []) 3) ≡ (k.refused, 9, []))
+      × (submit-says (submit-answer (Holding q ∷ Empty ∷ []) 1) ≡ (k.refused, 10, []))
+      × (submit-says (submit-answer (Holding q ∷ Empty ∷ []) 2) ≡ (k.accepted, 0, []))
   unfolding submit-answer
   submits = (refl, refl, refl, refl, refl, refl)
 
   -- 9 "last served over its length", also where the list is short; then 1; "With none full .. Idle, on any pool"
-  pub turns : (m : List ℕ) → (turn-says (turn m [] [] 0 .answer) ≡ (9, 0 ∷ 0 ∷ 0 ∷ []))
-      × (turn-says (turn m [] (Holding q ∷ []) 2 .answer) ≡ (9, 0 ∷ 0 ∷ 2 ∷ []))
-      × (turn-says (turn m (replicate 371 0) (Holding q ∷ []) 1 .answer) ≡ (1, 0 ∷ 0 ∷ 1 ∷ []))
-      × (turn-says (turn m (replicate 372 0) (Empty ∷ Empty ∷ []) 1 .answer) ≡ (0, 0 ∷ 0 ∷ 1 ∷ []))
+  pub turns : (m : List ℕ) → (turn-says (turn m [] [] 0 .answer) ≡ (k.refused, 9, 0 ∷ 0 ∷ 0 ∷ []))
+      × (turn-says (turn m [] (Holding q ∷ []) 2 .answer) ≡ (k.refused, 9, 0 ∷ 0 ∷ 2 ∷ []))
+      × (turn-says (turn m (replicate 371 0) (Holding q ∷ []) 1 .answer) ≡ (k.refused, 1, 0 ∷ 0 ∷ 1 ∷ []))
+      × (turn-says (turn m (replicate 372 0) (Empty ∷ Empty ∷ []) 1 .answer) ≡ (k.idle, 0, 0 ∷ 0 ∷ 1 ∷ []))
       × (turn m (replicate 372 0) (Holding q ∷ []) 1 .answer .member ≡ 1)
   unfolding serve-turn first-full
   turns m = (refl, refl, refl, refl, refl)

@@ -1,4 +1,5 @@
 -- Laws of desks and turns, the walks over desk records, and the proof of demand 3.
+pub mod Answers
 pub mod Bounds
 pub mod Round
 pub mod Looking
@@ -19,5 +20,6 @@ pub mod Ready
 pub mod Demand3
 pub mod Wrong
 pub mod Cases
+pub mod Tight
 pub mod OurPools
 pub mod Instance

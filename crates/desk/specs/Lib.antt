@@ -2,6 +2,7 @@
 pub mod Desk
 pub mod Turn
 pub mod Answers
+pub mod Promises
 pub mod Parts
 pub mod Rows
 pub mod Demand3

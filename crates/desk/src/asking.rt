@@ -6,9 +6,7 @@ use crate::desk::Desk;
 use crate::serving::serve_chosen;
 use crate::submitting::fill;
 use change::Request;
-ghost use mathlib.Core.Path.{_≡_};
-ghost use mathlib.Core.List.{[], _∷_};
-ghost use Rattle.desk.specs.Turn as t;
+ghost use Rattle.desk.specs.Promises.{AskPromise};
 
 // The answers to the submit and to the turn, and the desk after them.
 pub struct Asked {
@@ -19,11 +17,7 @@ pub struct Asked {
 
 // Submits to the only desk of a list of one, then takes a turn.
 pub fn ask(pool: &mut [u64], list: &mut [u64], desk: Desk, last: u64, request: Request) -> Asked
-    ensures submitted { λ r. ⌜ r .submitted ≡ t.submit-answer (desk ∷ []) 1 ⌝ }
-    ensures turn { λ r. ⌜ r .turn ≡ t.ask (now (pool .entry)) (now (list .entry)) desk last request .answer ⌝ }
-    ensures pool { λ _. ⌜ now (pool .exit) ≡ t.ask (now (pool .entry)) (now (list .entry)) desk last request .pool ⌝ }
-    ensures list { λ _. ⌜ now (list .exit) ≡ t.ask (now (pool .entry)) (now (list .entry)) desk last request .list ⌝ }
-    ensures desk { λ r. ⌜ r .desk ∷ [] ≡ t.ask-desks (now (pool .entry)) (now (list .entry)) desk last request ⌝ }
+    ensures { λ r. ⌜ AskPromise (now (pool .entry)) (now (list .entry)) desk last request r (now (pool .exit)) (now (list .exit)) ⌝ }
 {
     let f = fill(desk, request);
     let held = f.desk;

@@ -7,12 +7,12 @@ use crate::desk::Desk;
 use words::Pool;
 use words::Refusal;
 ghost use mathlib.Core.Path.{_≡_};
-ghost use Rattle.words.specs.Carry.{after-all};
 ghost use Rattle.desk.specs.Turn.{serve-turn, unserved};
+ghost use Rattle.desk.specs.Promises.{CarryAllPromise};
 
 // All events of the list up to a number, one after the other.
 pub fn carry_all(pool: &mut [u64], list: &[u64], events: u64)
-    ensures { λ _. ⌜ now (pool .exit) ≡ after-all (now (pool .entry)) (now (list .entry)) 1 events ⌝ }
+    ensures { λ _. ⌜ CarryAllPromise (now (pool .entry)) (now (list .entry)) events (now (pool .exit)) ⌝ }
 {
     let mut n = 0;
     while n < events {

@@ -7,7 +7,7 @@ ghost use mathlib.Core.Path.{_≡_};
 ghost use Prim.Native.Nat.{_-_};
 ghost use Rattle.words.specs.Tests.{if_then_else_};
 ghost use Rattle.desk.specs.Desk.{may-submit};
-ghost use Rattle.desk.specs.Turn.{submit-answer, submit-desks};
+ghost use Rattle.desk.specs.Promises.{SubmitPromise};
 ghost use Rattle.desk.specs.Parts.{filled};
 
 // What a desk becomes, and the answer.
@@ -48,8 +48,7 @@ pub fn fill(desk: Desk, request: Request) -> Filled
 }
 
 pub fn submit(desks: &mut [Desk], member: u64, request: Request) -> Submitted
-    ensures { λ r. ⌜ (r ≡ submit-answer (now (desks .entry)) member)
-        × (now (desks .exit) ≡ submit-desks (now (desks .entry)) member request) ⌝ }
+    ensures { λ r. ⌜ SubmitPromise (now (desks .entry)) member request r (now (desks .exit)) ⌝ }
 {
     let n = desks.len();
     let i = seat(n, member);

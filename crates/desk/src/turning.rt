@@ -6,7 +6,7 @@ use crate::serving::serve_chosen;
 use crate::submitting::seat;
 ghost use mathlib.Core.Path.{_≡_};
 ghost use Rattle.desk.specs.Parts.{emptied};
-ghost use Rattle.desk.specs.Turn as t;
+ghost use Rattle.desk.specs.Promises.{TurnPromise};
 
 // A member's desk is made fresh, where there is one.
 fn empty_desk(desks: &mut [Desk], member: u64)
@@ -20,10 +20,8 @@ fn empty_desk(desks: &mut [Desk], member: u64)
 }
 
 pub fn turn(pool: &mut [u64], list: &mut [u64], desks: &mut [Desk], last: u64) -> Turn
-    ensures { λ r. ⌜ (r ≡ t.turn (now (pool .entry)) (now (list .entry)) (now (desks .entry)) last .answer)
-        × (now (pool .exit) ≡ t.turn (now (pool .entry)) (now (list .entry)) (now (desks .entry)) last .pool)
-        × (now (list .exit) ≡ t.turn (now (pool .entry)) (now (list .entry)) (now (desks .entry)) last .list)
-        × (now (desks .exit) ≡ t.turn-desks (now (pool .entry)) (now (list .entry)) (now (desks .entry)) last) ⌝ }
+    ensures { λ r. ⌜ TurnPromise (now (pool .entry)) (now (list .entry)) (now (desks .entry)) last r
+        (now (pool .exit)) (now (list .exit)) (now (desks .exit)) ⌝ }
 {
     let n = desks.len();
     let c = choose(desks, last);

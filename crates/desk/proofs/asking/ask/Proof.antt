@@ -12,7 +12,9 @@ use Rattle.desk.specs.declared.desk.Desk.the-variants.{Empty, Holding}
 use Rattle.desk.specs.declared.submitting.Filled.{Filled}
 use Rattle.desk.specs.declared.answer.Turn.{Turn}
 use Rattle.desk.specs.Desk.{fresh, with-desk, first-full}
-use Rattle.desk.specs.Turn.{Left, submit-answer, submit-desks, serve-turn, turn, turn-desks}
+use Rattle.desk.specs.Turn.{Left, submit-answer, submit-desks, serve-turn, turn}
+use Rattle.desk.specs.Answers.{submit-says, turn-says}
+use Rattle.desk.specs.Promises.{AskPromise}
 use Rattle.desk.specs.Parts.{filled}
 use Rattle.desk.proofs.Served.{member-is}
 use Rattle.desk.proofs.asking.ask.Statement.{statement}
@@ -44,21 +46,19 @@ module _ (m l : List ℕ) (d : Desk) (last : ℕ) (q : Request) where
   served f = serve-turn m l 1 last 1 (f .desk)
 
   abbrev Does : Filled → Turn → List ℕ → List ℕ → Desk → Type 0
-  Does f r m′ l′ d′ =
-      let ds = submit-desks (d ∷ []) 1 q in
-      (f .answer ≡ submit-answer (d ∷ []) 1)
-      × ((r ≡ turn m l ds last .answer)
-      × ((m′ ≡ turn m l ds last .pool) × ((l′ ≡ turn m l ds last .list) × (d′ ∷ [] ≡ turn-desks m l ds last))))
+  Does f r m′ l′ d′ = AskPromise m l d last q (record { submitted = f .answer; turn = r; desk = d′ }) m′ l′
 
   abbrev Serves : Filled → Turn → List ℕ → List ℕ → Type 0
   Serves f r m′ l′ = (r ≡ served f .answer) × (m′ ≡ served f .pool) × (l′ ≡ served f .list)
 
   asked : {f : Filled} {r : Turn} {m′ l′ : List ℕ} {d′ : Desk} → f ≡ filled d q → Serves f r m′ l′
       → d′ ∷ [] ≡ with-desk (f .desk ∷ []) (r .member) fresh → Does f r m′ l′ d′
-  asked {f} is (e, g, h) t =
+  asked {f} {r} is (e, g, h) t =
       let all : turn m l (submit-desks (d ∷ []) 1 q) last ≡ served f = asked-one m l d last q ∙ rw is in
       let left : submit-desks (d ∷ []) 1 q ≡ f .desk ∷ [] = desks-one d q ∙ rw is in
-      (rw is (answer-one d q), (rw all e, (rw all g, (rw all h, rw (all, left) (rw e at t)))))
+      let a : f .answer ≡ submit-answer (d ∷ []) 1 = rw is (answer-one d q) in
+      let b : r ≡ turn m l (submit-desks (d ∷ []) 1 q) last .answer = rw all e in
+      (ap submit-says a, ap turn-says b, rw all g, rw all h, rw (all, left) (rw e at t))
 
   kept : {f : Filled} {r : Turn} {m′ l′ : List ℕ} → f ≡ filled d q → Serves f r m′ l′ → r .member ≡ 0 → Does f r m′ l′ (f .desk)
   kept is e z = asked is e (rw z)

@@ -13,6 +13,7 @@ use Rattle.words.specs.declared.refusal.Refusal.the-variants.{ShortList, NoDesk
 use Rattle.change.specs.declared.Request.{Request}
 use Rattle.change.specs.declared.Answer.{Answer}
 use Rattle.change.specs.Calls.{serve-answer, serve-list}
+use Rattle.change.proofs.Answers.{answer-told}
 use Rattle.desk.specs.declared.desk.Desk.{Desk}
 use Rattle.desk.specs.declared.desk.Desk.the-variants.{Empty, Holding}
 use Rattle.desk.specs.declared.answer.Turned.the-variants.{Served, Idle, Refused}
@@ -104,7 +105,7 @@ returns-4 c =
     let told = served-at .before .before .before in
     let other = told .before .before .before in
     served _ _ _ _ _ _ _ _ (may (other .before)) (other .if2 .left) (told .before .desk .given .1)
-    (served-at .serve .ensures .0) (served-at .serve .ensures .1) (carried .carry-all .ensures)
+    (answer-told _ _ (served-at .serve .ensures .0)) (served-at .serve .ensures .1) (carried .carry-all .ensures)
 
 pub serve-chosen-spec : {M : Type 1} → statement M
 serve-chosen-spec =

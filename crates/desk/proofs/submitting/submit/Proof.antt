@@ -29,6 +29,7 @@ use Rattle.desk.specs.declared.answer.Submitted.the-variants.{Refused}
 use Rattle.words.specs.declared.refusal.Refusal.the-variants.{NoDesk}
 use Rattle.desk.specs.Desk.{fresh}
 use Rattle.desk.specs.Turn.{submit-answer, submit-desks}
+use Rattle.desk.specs.Answers.{submit-says}
 use Rattle.desk.specs.Parts.{filled}
 use Rattle.desk.proofs.Frames.{all-unset}
 use Rattle.desk.proofs.Submits.{place, refuses, fills}
@@ -112,7 +113,7 @@ module _ {M : Type 1} (𝓤 : URA M) (H : Heap 𝓤) (A : Atoms 𝓤) (mem : Mem
     exits gn zs r e is said =
         qed W (Left zs) ∵
         suffices ! _ (ends-at 𝓤 H A submit.ended stayed (submit.clauses 𝓤 H A mem run) W bound (sv r) r (zs, (tt, (tt, tt)))
-        (e, (tt, (tt, tt)))) $ says ! said $ nothing ! $ move ! (3 ∷ 0 ∷ []) $ join ! $ frame ! $ fjoin ! $
+        (e, (tt, (tt, tt)))) $ says ! (ap submit-says (said .0), said .1) $ nothing ! $ move ! (3 ∷ 0 ∷ []) $ join ! $ frame ! $ fjoin ! $
         pureI ! (at-slice D.the-row (record { ptr = (b, o); name = γ; now = zs }) (at .0)) (tt, (tt, tt))
         (ap (λ (k : ℕ). sliceVal (b, o) k ∷ []) (sym e), subst (Room D.the-row) (sym e) gn) $ fjoin ! $ fjoin ! $ frame ! $
         owned ! S.the-row (Is S.the-row) (EL.makes S.the-type S′.the-plain 𝓤 H A) r _ is $ done !

@@ -20,6 +20,7 @@ use Rattle.desk.specs.declared.choosing.Chosen.{Chosen}
 use Rattle.desk.specs.declared.answer.Turn.{Turn}
 use Rattle.desk.specs.Turn as t
 use Rattle.desk.specs.Turn.{serve-turn}
+use Rattle.desk.specs.Answers.{turn-says}
 use Rattle.desk.specs.Parts.{chosen, emptied}
 use Rattle.desk.proofs.Frames.{all-unset}
 use Rattle.desk.proofs.Again.{LentAgain, lends-again, comes-back}
@@ -163,7 +164,8 @@ module _ {M : Type 1} (𝓤 : URA M) (H : Heap 𝓤) (A : Atoms 𝓤) (mem : Mem
     exits gm r z₀ z₁ z₂ gr e₀ e₁ e₂ said =
         qed W (Gone z₀ z₁ z₂) ∵
         suffices ! _ (ends-at 𝓤 H A turn.ended stayed (turn.clauses 𝓤 H A mem run) W bound (sv r) r (z₀, (z₁, (z₂, (tt, tt))))
-        (e₀, (e₁, (e₂, (tt, tt))))) $ says ! said $ move ! (2 ∷ []) $ split ! $ move ! (1 ∷ []) $ split ! $ move ! (1 ∷ []) $ drop ! $
+        (e₀, (e₁, (e₂, (tt, tt))))) $ says ! (ap turn-says (said .0), said .1, said .2, said .3) $ move ! (2 ∷ []) $ split ! $
+        move ! (1 ∷ []) $ split ! $ move ! (1 ∷ []) $ drop ! $
         move ! (0 ∷ 2 ∷ []) $ join ! $ move ! (1 ∷ 0 ∷ []) $ join ! $ frame ! $ nothing ! $ owned ! u64 (Is u64) (uint-makes 𝓤 H A W w64) m
         _ (refl, gm) $ fjoin ! $ move ! (1 ∷ 0 ∷ []) $ fjoin ! $ move ! (1 ∷ 0 ∷ []) $ fjoin ! $ move ! (1 ∷ 0 ∷ []) $ fjoin ! $ frame ! $
         owned ! S.the-row (Is S.the-row) (LL.makes S.the-type S′.the-plain 𝓤 H A) r _ gr $ done !
