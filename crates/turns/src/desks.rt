@@ -18,9 +18,9 @@ use words::Refusal;
 ghost use mathlib.Core.Path.{_≡_};
 ghost use Rattle.change.specs.declared.Request.the-variants.{Put, Fetch, Delete};
 ghost use Rattle.desk.specs.Parts.{chosen};
-ghost use Rattle.desk.specs.Turn.{submit-answer, turn};
-ghost use Rattle.turns.specs.Replies.{submitted-reply, turn-reply};
+ghost use Rattle.desk.specs.Turn.{submit-answer};
 ghost use Rattle.turns.specs.Desks as d;
+ghost use Rattle.turns.specs.Promises.{SubmitPromise, TurnPromise};
 
 // A request is laid on a member's desk, where that is empty.
 fn submit(desks: &mut [DeskRecord], member: u64, request: DeskRecord) -> Submitted
@@ -49,24 +49,21 @@ pub extern "C" fn ombykape_submit_put(
     key: u64,
     value: u64,
 ) -> Reply
-    ensures answer { λ r. ⌜ r ≡ submitted-reply (submit-answer (d.desks-of (now (desks .entry))) member) ⌝ }
-    ensures desks { λ _. ⌜ now (desks .exit) ≡ d.submit-records (now (desks .entry)) member (d.record-of (Put key value)) ⌝ }
+    ensures { λ r. ⌜ SubmitPromise (now (desks .entry)) member (Put key value) r (now (desks .exit)) ⌝ }
 {
     submitted_reply(submit(desks, member, [Holds::PUT, key, value]))
 }
 
 #[no_mangle]
 pub extern "C" fn ombykape_submit_fetch(desks: &mut [DeskRecord], member: u64, key: u64) -> Reply
-    ensures answer { λ r. ⌜ r ≡ submitted-reply (submit-answer (d.desks-of (now (desks .entry))) member) ⌝ }
-    ensures desks { λ _. ⌜ now (desks .exit) ≡ d.submit-records (now (desks .entry)) member (d.record-of (Fetch key)) ⌝ }
+    ensures { λ r. ⌜ SubmitPromise (now (desks .entry)) member (Fetch key) r (now (desks .exit)) ⌝ }
 {
     submitted_reply(submit(desks, member, [Holds::FETCH, key, 0]))
 }
 
 #[no_mangle]
 pub extern "C" fn ombykape_submit_delete(desks: &mut [DeskRecord], member: u64, key: u64) -> Reply
-    ensures answer { λ r. ⌜ r ≡ submitted-reply (submit-answer (d.desks-of (now (desks .entry))) member) ⌝ }
-    ensures desks { λ _. ⌜ now (desks .exit) ≡ d.submit-records (now (desks .entry)) member (d.record-of (Delete key)) ⌝ }
+    ensures { λ r. ⌜ SubmitPromise (now (desks .entry)) member (Delete key) r (now (desks .exit)) ⌝ }
 {
     submitted_reply(submit(desks, member, [Holds::DELETE, key, 0]))
 }
@@ -108,14 +105,8 @@ pub extern "C" fn ombykape_turn(
     desks: &mut [DeskRecord],
     last: u64,
 ) -> TurnReply
-    ensures answer { λ r. ⌜ r ≡ turn-reply
-        (turn (now (pool .entry)) (now (list .entry)) (d.desks-of (now (desks .entry))) last .answer) ⌝ }
-    ensures pool { λ _. ⌜ now (pool .exit)
-        ≡ turn (now (pool .entry)) (now (list .entry)) (d.desks-of (now (desks .entry))) last .pool ⌝ }
-    ensures list { λ _. ⌜ now (list .exit)
-        ≡ turn (now (pool .entry)) (now (list .entry)) (d.desks-of (now (desks .entry))) last .list ⌝ }
-    ensures desks { λ _. ⌜ now (desks .exit)
-        ≡ d.turn-records (now (pool .entry)) (now (list .entry)) (now (desks .entry)) last ⌝ }
+    ensures { λ r. ⌜ TurnPromise (now (pool .entry)) (now (list .entry)) (now (desks .entry)) last r
+        (now (pool .exit)) (now (list .exit)) (now (desks .exit)) ⌝ }
 {
     let n = desks.len();
     let c = choose(desks, last);

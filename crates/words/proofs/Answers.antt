@@ -18,10 +18,14 @@ use Rattle.words.specs.Answers.{Said, carried-says}
 pub told : {A B : Type 0} (says : A → B) (read : B → A) → ((r : A) → read (says r) ≡ r) → (r s : A) → says r ≡ says s → r ≡ s
 told says read back r s e = sym (back r) ∙ ap read e ∙ back s
 
--- an answer that says the given, and words that are the given, leave no choice
+-- what is given leaves no choice
+pub both-given : {A W : Type 0} {a r s : A} {w x y : W} → (r ≡ a) × (x ≡ w) → (s ≡ a) × (y ≡ w) → (r ≡ s) × (x ≡ y)
+both-given h k = (h .0 ∙ sym (k .0), h .1 ∙ sym (k .1))
+
+-- nor does an answer of which it is given what it says
 pub one-outcome : {A B W : Type 0} {says : A → B} {r s : A} {b : B} {x y w : W} → ((r s : A) → says r ≡ says s → r ≡ s)
     → (says r ≡ b) × (x ≡ w) → (says s ≡ b) × (y ≡ w) → (r ≡ s) × (x ≡ y)
-one-outcome apart h k = (apart _ _ (h .0 ∙ sym (k .0)), h .1 ∙ sym (k .1))
+one-outcome apart h k = let e = both-given h k in (apart _ _ (e .0), e .1)
 
 -- the refusal of a number
 abbrev pub refusal-of : ℕ → Refusal

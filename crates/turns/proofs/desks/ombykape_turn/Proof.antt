@@ -35,7 +35,7 @@ returns c =
     let a = h .before .before .before .before .args in
     let all = leaves (a .pool .now) (a .list .now) (a .desks .now) (a .last) (h .choose .result) (h .choose .ensures)
     (s .serve-chosen .ensures) (e .empty-desk .ensures) in
-    (c .turn-reply .ensures ∙ ap turn-reply (all .0), (all .1, (all .2, all .3)))
+    (c .turn-reply .ensures ∙ ap turn-reply (all .0), all .1, all .2, all .3)
 
 pub ombykape-turn-spec : {M : Type 1} → statement M
 ombykape-turn-spec =

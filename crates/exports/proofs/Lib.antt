@@ -1,0 +1,2 @@
+-- Each exported call allows one outcome.
+pub mod Tight
