@@ -1,38 +1,22 @@
 // Rows of requests on fresh pools. Each answer is compared with a list that the program keeps itself; the events, the refusals and the
-// height of each case with numbers that were worked out apart from it. Prints a line a case.
+// height of each case with numbers that were worked out apart from it. The answers of rows of submits and turns are compared with answers
+// worked out apart. Prints a line a case.
 mod asking;
+mod desks;
+mod lending;
 mod model;
 mod report;
 mod rows;
+mod seen;
+mod steps;
 mod tally;
 
-use change::Outcome;
-use change::Request;
-use desk::Desk;
-use desk::Turned;
 use report::Want;
 use report::tell;
 use rows::Part;
 use rows::Row;
 use rows::play;
 ghost use Prim.Native.Nat.{_≤_};
-
-// "One desk: next turn serves it."
-fn one_desk() -> bool {
-    let mut pool = [0u64; 1672];
-    let mut list = [0u64; 372];
-    asking::make(&mut pool, &mut list, 100);
-    let asked = desk::ask(&mut pool, &mut list, Desk::FRESH, 0, Request::Put(7, 70));
-    let turn = asked.turn;
-    let turned = turn.turned;
-    let Turned::Served(outcome) = turned else {
-        return false;
-    };
-    let Outcome::New = outcome else {
-        return false;
-    };
-    (turn.member == 1) & (turn.last == 1) & (turn.events == 7)
-}
 
 // One leaf, the splits of a full one, and pools that have no node to spare.
 fn leaves() {
@@ -129,7 +113,7 @@ fn deletes() {
 }
 
 fn main() {
-    report::tell_whether(b"one desk", one_desk());
+    desks::tell_desks();
     leaves();
     trees();
     full_pools();

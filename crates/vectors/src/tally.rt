@@ -84,11 +84,15 @@ fn may_count(outcome: Outcome, events: u64) -> bool {
     }
 }
 
+pub fn same(a: Outcome, b: Outcome) -> bool {
+    let case = case_of(a) == case_of(b);
+    let value = value_of(a) == value_of(b);
+    let number = number_of(a) == number_of(b);
+    case & value & number
+}
+
 pub fn agree(want: Outcome, got: Outcome, events: u64) -> bool {
-    if case_of(want) != case_of(got) {
-        return false;
-    }
-    if value_of(want) != value_of(got) {
+    if !same(want, got) {
         return false;
     }
     may_count(got, events)
