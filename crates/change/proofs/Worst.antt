@@ -24,8 +24,10 @@ use Rattle.change.specs.Gate.{Planned}
 use Rattle.change.specs.Steps.{new-node}
 use Rattle.change.specs.Put.{put}
 use Rattle.change.specs.Calls.{put-answer}
-use Rattle.change.specs.Sums.{Row, numbers, outcome, fresh, AllAgree}
+use Rattle.change.specs.Answers.{outcome-says}
+use Rattle.change.specs.Sums.{Row, numbers, says, fresh, AllAgree}
 use Rattle.change.specs.Most.{most, split-levels, new-roots, Reached}
+use Rattle.change.proofs.Answers.{outcome-told}
 use Rattle.change.proofs.Opened.{opened}
 use Rattle.change.proofs.Rows.{tests, all-agree}
 use Rattle.change.proofs.Cases.{list-passes}
@@ -51,7 +53,7 @@ abbrev rows : ℕ → ℕ → List ℕ → List Row
 rows r l path =
     numbers (l ∷ r ∷ []) (split-levels (memory r l) path ∷ new-roots (memory r l) path ∷ [])
     ∷ numbers (most r l ∷ []) (length (plan r l .events) ∷ [])
-    ∷ outcome New (plan r l .answer)
+    ∷ says (outcome-says New) (outcome-says (plan r l .answer))
     ∷ []
 
 -- that it is so where the way down comes to a leaf, and that all words have 64 bits
@@ -94,7 +96,7 @@ passed r l (leaf k above) e t =
       way = e;
       levels = sym (ap (λ (xs : List ℕ). at xs 0) (agree .0));
       roots = sym (ap (λ (xs : List ℕ). at xs 1) (agree .0));
-      call = answers r l (agree .1 .1 .0) (ap (λ (xs : List ℕ). at xs 0) (agree .1 .0));
+      call = answers r l (outcome-told New (plan r l .answer) (agree .1 .1 .0)) (ap (λ (xs : List ℕ). at xs 0) (agree .1 .0));
     }
 
 pub reached : (r l : ℕ) → r ≤ 1 → 1 ≤ l → l ≤ 7 → Reached r l (most r l)

@@ -1,16 +1,15 @@
--- "The team proves that two outcomes allowed by the promise coincide": of what a caller learns by each contract, with the same words and
--- desks lent and the same request.
+-- "The team proves that two outcomes allowed by the promise coincide": of each contract itself, with the same words and desks lent and the
+-- same request.
 use Prim.Native.Nat.{ℕ}
 use mathlib.Core.Path.{_≡_, refl, sym, _∙_, ap}
 use mathlib.Core.List.{List}
 use lib.ListN.{getD}
 use contract.Lifetimes.{Lfts}
-use borrow.Fn.World.{ArgsD, ResD}
-use denote.Triple.Clauses.{AtExit}
 use denote.Triple.Entry.{Args, Res}
 use denote.Triple.Spec.{exits}
 use denote.Ref.{now}
-use Rattle.words.proofs.Answers.{one-outcome}
+use Rattle.words.proofs.Answers.{one-outcome, both-same}
+use Rattle.words.proofs.Tight.{Tight}
 use Rattle.change.specs.declared.Request.{Request}
 use Rattle.desk.specs.declared.desk.Desk.{Desk}
 use Rattle.desk.specs.declared.answer.Submitted.{Submitted}
@@ -18,31 +17,37 @@ use Rattle.desk.specs.declared.answer.Turn.{Turn}
 use Rattle.desk.specs.declared.asking.Asked.{Asked}
 use Rattle.desk.specs.Desk.{fresh}
 use Rattle.desk.specs.Promises.{SubmitPromise, TurnPromise}
-use Rattle.desk.proofs.Kit.{URA, Heap, Atoms, Memory, Routine, Fun, SProp, fact}
+use Rattle.desk.proofs.Kit.{URA, Heap, Atoms, Memory, Routine, Fun, SProp, fact, emp}
 use Rattle.desk.proofs.Answers.{submit-told, turn-told}
 use Rattle.desk.proofs.submitting.submit as submit
 use Rattle.desk.proofs.turning.turn as turn
-use Rattle.desk.proofs.asking.ask as ask
+use Rattle.desk.proofs.asking.ask.Kinds as ask
 use Rattle.desk.proofs.asking.ask.Reads as ask-reads
-use Rattle.desk.proofs.serving.serve_chosen as serve-chosen
+use Rattle.desk.proofs.serving.serve_chosen.Kinds as serve-chosen
 use Rattle.desk.proofs.serving.serve_chosen.Reads as serve-chosen-reads
-use Rattle.desk.proofs.serving.carry_all as carry-all
+use Rattle.desk.proofs.serving.carry_all.Kinds as carry-all
 use Rattle.desk.proofs.serving.carry_all.Reads as carry-all-reads
-use Rattle.desk.proofs.submitting.seat as seat
+use Rattle.desk.proofs.submitting.seat.Kinds as seat
 use Rattle.desk.proofs.submitting.seat.Reads as seat-reads
-use Rattle.desk.proofs.choosing.looked_at as looked-at
+use Rattle.desk.proofs.choosing.looked_at.Kinds as looked-at
 use Rattle.desk.proofs.choosing.looked_at.Reads as looked-at-reads
-use Rattle.desk.proofs.choosing.looked_member as looked-member
+use Rattle.desk.proofs.choosing.looked_member.Kinds as looked-member
 use Rattle.desk.proofs.choosing.looked_member.Reads as looked-member-reads
-use Rattle.desk.proofs.choosing.note as note
+use Rattle.desk.proofs.choosing.note.Kinds as note
 use Rattle.desk.proofs.choosing.note.Reads as note-reads
 
--- submit and turn are walked by hand: in every model the contract ensures the promise, and that alone ..
+-- submit and turn are walked by hand: in every model the contract asks nothing, and ensures the promise and that alone ..
 module _ {M : Type 1} (𝓤 : URA M) (H : Heap 𝓤) (A : Atoms 𝓤) (mem : Memory → SProp 𝓤) (run : Routine → Fun 𝓤) where
+  pub submit-requires : (κs : Lfts 1) (a : Args submit.signature κs) → submit.spec 𝓤 H A mem run κs a .requires tt ≡ emp 𝓤
+  submit-requires κs a = refl
+
   pub submit-ensures : (κs : Lfts 1) (a : Args submit.signature κs) (r : Res submit.signature κs)
       → submit.spec 𝓤 H A mem run κs a .ensures tt r ≡ exits 𝓤 H A submit.signature (submit.ended .kept) κs a
       (λ x. fact 𝓤 (SubmitPromise (now (a .0)) (a .1 .0) (a .1 .1 .0) r (now (x .0))))
   submit-ensures κs a r = refl
+
+  pub turn-requires : (κs : Lfts 3) (a : Args turn.signature κs) → turn.spec 𝓤 H A mem run κs a .requires tt ≡ emp 𝓤
+  turn-requires κs a = refl
 
   pub turn-ensures : (κs : Lfts 3) (a : Args turn.signature κs) (r : Res turn.signature κs)
       → turn.spec 𝓤 H A mem run κs a .ensures tt r ≡ exits 𝓤 H A turn.signature (turn.ended .kept) κs a
@@ -65,37 +70,37 @@ asked-is : {a b : Submitted} {t u : Turn} {d e : Desk} → a ≡ b → t ≡ u �
     → _≡_ {A = Asked} (record { submitted = a; turn = t; desk = d }) (record { submitted = b; turn = u; desk = e })
 asked-is p q w = rw (p, q, w)
 
-pub ask-tight : (κs : Lfts 2) (a : ArgsD ask.signature κs) (r s : ResD ask.signature κs) (x y : AtExit ask.ended κs)
-    → ask-reads.Learnt κs a r x → ask-reads.Learnt κs a s y
-    → (r ≡ s) × (now (x .0) ≡ now (y .0)) × (now (x .1 .0) ≡ now (y .1 .0))
-ask-tight κs a r s x y h k =
-    let submitted = submit-told _ _ (h .0 ∙ sym (k .0)) in
-    let turn = turn-told _ _ (h .1 ∙ sym (k .1)) in
-    let desk = ap (λ (ds : List Desk). getD ds 0 fresh) (h .4 ∙ sym (k .4)) in
-    (asked-is submitted turn desk, h .2 ∙ sym (k .2), h .3 ∙ sym (k .3))
+-- pool and list
+pub ask-tight : Tight 2 ask.ps ask.r {B = List ℕ × List ℕ} ask-reads.Asked ask-reads.Learnt (λ κs x. (now (x .0), now (x .1 .0)))
+ask-tight = record {
+  free = λ κs a. tt;
+  one = λ κs a r s x y h k.
+      let submitted = submit-told _ _ (h .0 ∙ sym (k .0)) in
+      let turn = turn-told _ _ (h .1 ∙ sym (k .1)) in
+      let desk = ap (λ (ds : List Desk). getD ds 0 fresh) (h .4 ∙ sym (k .4)) in
+      (asked-is submitted turn desk, both-same (h .2 ∙ sym (k .2)) (h .3 ∙ sym (k .3)));
+}
 
-pub serve-chosen-tight : (κs : Lfts 2) (a : ArgsD serve-chosen.signature κs) (r s : ResD serve-chosen.signature κs)
-    (x y : AtExit serve-chosen.ended κs) → serve-chosen-reads.Learnt κs a r x → serve-chosen-reads.Learnt κs a s y
-    → (r ≡ s) × (now (x .0) ≡ now (y .0)) × (now (x .1 .0) ≡ now (y .1 .0))
-serve-chosen-tight κs a r s x y h k = (h .0 ∙ sym (k .0), h .1 ∙ sym (k .1), h .2 ∙ sym (k .2))
+pub serve-chosen-tight : Tight 2 serve-chosen.ps serve-chosen.r {B = List ℕ × List ℕ} serve-chosen-reads.Asked
+    serve-chosen-reads.Learnt (λ κs x. (now (x .0), now (x .1 .0)))
+serve-chosen-tight = record {
+  free = λ κs a. tt;
+  one = λ κs a r s x y h k. (h .0 ∙ sym (k .0), both-same (h .1 ∙ sym (k .1)) (h .2 ∙ sym (k .2)));
+}
 
-pub carry-all-tight : (κs : Lfts 2) (a : ArgsD carry-all.signature κs) (r s : ResD carry-all.signature κs)
-    (x y : AtExit carry-all.ended κs) → carry-all-reads.Learnt κs a r x → carry-all-reads.Learnt κs a s y → now (x .0) ≡ now (y .0)
-carry-all-tight κs a r s x y h k = h ∙ sym k
+pub carry-all-tight : Tight 2 carry-all.ps carry-all.r carry-all-reads.Asked carry-all-reads.Learnt (λ κs x. now (x .0))
+carry-all-tight = record { free = λ κs a. tt; one = λ κs a r s x y h k. (refl, h ∙ sym k) }
 
--- and the functions under submit and turn that the crate above calls: no words are lent to them
-pub seat-tight : (κs : Lfts 0) (a : ArgsD seat.signature κs) (r s : ResD seat.signature κs) (x y : AtExit seat.ended κs)
-    → seat-reads.Learnt κs a r x → seat-reads.Learnt κs a s y → r ≡ s
-seat-tight κs a r s x y h k = h ∙ sym k
+-- and the functions under submit and turn that the crate above calls: nothing is lent to them
+pub seat-tight : Tight 0 seat.ps seat.r {B = Unit {0}} seat-reads.Asked seat-reads.Learnt (λ κs x. tt)
+seat-tight = record { free = λ κs a. tt; one = λ κs a r s x y h k. (h ∙ sym k, refl) }
 
-pub looked-at-tight : (κs : Lfts 0) (a : ArgsD looked-at.signature κs) (r s : ResD looked-at.signature κs) (x y : AtExit looked-at.ended κs)
-    → looked-at-reads.Learnt κs a r x → looked-at-reads.Learnt κs a s y → r ≡ s
-looked-at-tight κs a r s x y h k = h ∙ sym k
+pub looked-at-tight : Tight 0 looked-at.ps looked-at.r {B = Unit {0}} looked-at-reads.Asked looked-at-reads.Learnt (λ κs x. tt)
+looked-at-tight = record { free = λ κs a. tt; one = λ κs a r s x y h k. (h ∙ sym k, refl) }
 
-pub looked-member-tight : (κs : Lfts 0) (a : ArgsD looked-member.signature κs) (r s : ResD looked-member.signature κs)
-    (x y : AtExit looked-member.ended κs) → looked-member-reads.Learnt κs a r x → looked-member-reads.Learnt κs a s y → r ≡ s
-looked-member-tight κs a r s x y h k = h ∙ sym k
+pub looked-member-tight : Tight 0 looked-member.ps looked-member.r {B = Unit {0}} looked-member-reads.Asked
+    looked-member-reads.Learnt (λ κs x. tt)
+looked-member-tight = record { free = λ κs a. tt; one = λ κs a r s x y h k. (h ∙ sym k, refl) }
 
-pub note-tight : (κs : Lfts 0) (a : ArgsD note.signature κs) (r s : ResD note.signature κs) (x y : AtExit note.ended κs)
-    → note-reads.Learnt κs a r x → note-reads.Learnt κs a s y → r ≡ s
-note-tight κs a r s x y h k = h ∙ sym k
+pub note-tight : Tight 0 note.ps note.r {B = Unit {0}} note-reads.Asked note-reads.Learnt (λ κs x. tt)
+note-tight = record { free = λ κs a. tt; one = λ κs a r s x y h k. (h ∙ sym k, refl) }

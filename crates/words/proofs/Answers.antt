@@ -27,6 +27,10 @@ pub one-outcome : {A B W : Type 0} {says : A → B} {r s : A} {b : B} {x y w : W
     → (says r ≡ b) × (x ≡ w) → (says s ≡ b) × (y ≡ w) → (r ≡ s) × (x ≡ y)
 one-outcome apart h k = let e = both-given h k in (apart _ _ (e .0), e .1)
 
+-- the same on both sides makes the same pair
+pub both-same : {A W : Type 0} {r s : A} {x y : W} → r ≡ s → x ≡ y → _≡_ {A = A × W} (r, x) (s, y)
+both-same p q = rw (p, q)
+
 -- the refusal of a number
 abbrev pub refusal-of : ℕ → Refusal
 refusal-of n =

@@ -1,13 +1,23 @@
--- "The team proves that two outcomes allowed by the promise coincide": of what a caller learns by the contract, with the same words lent.
+-- "The team proves that two outcomes allowed by the promise coincide": of the contract itself, as a caller reads it.
+use Prim.Native.Nat.{ℕ}
 use mathlib.Core.Path.{_≡_}
+use mathlib.Core.List.{List}
 use contract.Lifetimes.{Lfts}
-use borrow.Fn.World.{ArgsD, ResD}
 use denote.Triple.Clauses.{AtExit}
 use denote.Ref.{now}
+use borrow.Fn.Kind.{PK, RK}
+use borrow.Fn.Kinds.{Dens, resT, In, Out, endedOf}
 use Rattle.words.proofs.Answers.{one-outcome, carried-told}
-use Rattle.words.proofs.carry.carry_out as carry-out
+use Rattle.words.proofs.carry.carry_out.Kinds as carry-out
 use Rattle.words.proofs.carry.carry_out.Reads as carry-out-reads
 
-pub carry-out-tight : (κs : Lfts 2) (a : ArgsD carry-out.signature κs) (r s : ResD carry-out.signature κs) (x y : AtExit carry-out.ended κs)
-    → carry-out-reads.Learnt κs a r x → carry-out-reads.Learnt κs a s y → (r ≡ s) × (now (x .0) ≡ now (y .0))
-carry-out-tight κs a r s x y = one-outcome carried-told
+-- of a call with these parameters and this result: its contract asks nothing of a caller, and what a caller learns by it allows one answer
+-- and one content of all that was lent to be changed
+pub record Tight (n : ℕ) (ps : List (PK n)) (k : RK n) {B : Type 0} (asked : In n ps) (learnt : Out n ps k)
+    (left : (κs : Lfts n) → AtExit (endedOf n ps k) κs → B) : Type 0 where
+  pub free : (κs : Lfts n) (a : Dens κs ps) → asked κs a
+  pub one : (κs : Lfts n) (a : Dens κs ps) (r s : resT k κs .Denot) (x y : AtExit (endedOf n ps k) κs) → learnt κs a r x → learnt κs a s y
+      → (r ≡ s) × (left κs x ≡ left κs y)
+
+pub carry-out-tight : Tight 2 carry-out.ps carry-out.r carry-out-reads.Asked carry-out-reads.Learnt (λ κs x. now (x .0))
+carry-out-tight = record { free = λ κs a. tt; one = λ κs a r s x y. one-outcome carried-told }
