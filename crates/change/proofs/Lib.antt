@@ -31,3 +31,9 @@ pub mod SplitCuts
 pub mod ServeCuts
 pub mod FormatCuts
 pub mod Wrong
+pub mod Conditions
+pub mod ConditionsNode
+pub mod ConditionsChild
+pub mod ConditionsPath
+pub mod ConditionsRoom
+pub mod ConditionsCalls

@@ -16,3 +16,4 @@ pub mod Rule
 pub mod Most
 pub mod Told
 pub mod Sums
+pub mod Conditions

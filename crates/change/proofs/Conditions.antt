@@ -1,0 +1,268 @@
+-- The conditions of 01's table that look at the lent words alone: each is what the test of its definition tells.
+use Prim.Native.Nat.{ℕ, zero, suc, _+_, _-_, _*_, _/_, _≤_, _<_}
+use mathlib.Core.Path.{_≡_, refl, sym}
+use mathlib.Core.Logic.{_⊎_, inl, inr, ⊎-elim}
+use mathlib.Core.List.{List}
+use mathlib.Core.Bool.{Bool, true, false, not, _&&_}
+use mathlib.Core.Option.{Option, none, some}
+use native.Mathlib.Omega.{arith}
+use lib.ListN.{length}
+use lib.Dec.{ltb, leb, eqb}
+use borrow.Author.Tests.{ltb-true, ltb-false, leb-true, leb-false}
+use Rattle.words.specs.Tests.{if_then_else_, within}
+use Rattle.words.specs.Event.{Event, store, flush, fence, at, event-of, event-at}
+use Rattle.words.specs.Carry.{inside}
+use Rattle.words.proofs.Tests.{Tells, is, isnt, tells-equal, tells-and, differ}
+use Rattle.tree.specs.Header.{form-agrees, counts-agree, commit-of, total-in}
+use Rattle.change.specs.Recover.{log-pairs, may-store, all-may-store, log-agrees}
+use Rattle.change.specs.Conditions as w
+
+-- the test b fails exactly where P
+pub data Fails (P : Type 0) : Bool → Type 0 where
+  breaks : P → Fails P false
+  keeps : ¬ P → Fails P true
+
+-- a test that tells P passes where P, and P where it passes
+pub sure : {P : Type 0} {b : Bool} → Tells P b → P → b ≡ true
+sure (is p) q = refl
+sure (isnt n) q = absurd (n q)
+
+pub told : {P : Type 0} {b : Bool} → Tells P b → b ≡ true → P
+told (is p) e = p
+told (isnt n) e = absurd (differ (sym e))
+
+-- a test that P fails does so where P, and P where it fails
+pub failing : {P : Type 0} {b : Bool} → Fails P b → P → b ≡ false
+failing (breaks p) q = refl
+failing (keeps n) q = absurd (n q)
+
+pub why-failed : {P : Type 0} {b : Bool} → Fails P b → b ≡ false → P
+why-failed (breaks p) e = p
+why-failed (keeps n) e = absurd (differ e)
+
+-- the same told in other words
+pub tells-by : {P Q : Type 0} {b : Bool} → (P → Q) → (Q → P) → Tells P b → Tells Q b
+tells-by f g (is p) = is (f p)
+tells-by f g (isnt n) = isnt (λ q. n (g q))
+
+pub fails-by : {P Q : Type 0} {b : Bool} → (P → Q) → (Q → P) → Fails P b → Fails Q b
+fails-by f g (breaks p) = breaks (f p)
+fails-by f g (keeps n) = keeps (λ q. n (g q))
+
+-- a test, and its negation
+fails-told : {P : Type 0} {b : Bool} → Tells P b → Fails (¬ P) b
+fails-told (is p) = keeps (λ n. n p)
+fails-told (isnt n) = breaks n
+
+pub not-tells : {P : Type 0} {b : Bool} → Fails P b → Tells P (not b)
+not-tells (breaks p) = is p
+not-tells (keeps n) = isnt n
+
+pub tells-not : {P : Type 0} (b : Bool) → Tells P (not b) → Fails P b
+tells-not true (isnt n) = keeps n
+tells-not false (is p) = breaks p
+
+pub not-fails : {P : Type 0} {b : Bool} → Tells P b → Fails P (not b)
+not-fails (is p) = breaks p
+not-fails (isnt n) = keeps n
+
+-- one of two tests fails
+pub fails-and : {P Q : Type 0} {a b : Bool} → Fails P a → Fails Q b → Fails (P ⊎ Q) (a && b)
+fails-and (breaks p) q = breaks (inl p)
+fails-and (keeps n) (breaks q) = breaks (inr q)
+fails-and (keeps n) (keeps k) = keeps (⊎-elim n k)
+
+-- tests of numbers
+pub tells-less : (a b : ℕ) → Tells (a < b) (ltb a b)
+tells-less a b = go (ltb a b) refl
+  where
+    go : (t : Bool) → ltb a b ≡ t → Tells (a < b) t
+    go true e = is (ltb-true a b e)
+    go false e = let h : b ≤ a = ltb-false a b e in isnt (λ l. omega arith)
+
+fails-less : (a b : ℕ) → Fails (b ≤ a) (ltb a b)
+fails-less a b = fails-by (λ n. omega arith) (λ h l. omega arith) (fails-told (tells-less a b))
+
+pub tells-most : (a b : ℕ) → Tells (a ≤ b) (leb a b)
+tells-most a b = go (leb a b) refl
+  where
+    go : (t : Bool) → leb a b ≡ t → Tells (a ≤ b) t
+    go true e = is (leb-true a b e)
+    go false e = let h : b < a = leb-false a b e in isnt (λ l. omega arith)
+
+fails-most : (a b : ℕ) → Fails (b < a) (leb a b)
+fails-most a b = fails-by (λ n. omega arith) (λ h l. omega arith) (fails-told (tells-most a b))
+
+pub fails-equal : (a b : ℕ) → Fails (¬ (a ≡ b)) (eqb a b)
+fails-equal a b = fails-told (tells-equal a b)
+
+pub out-in : {low x high : ℕ} → w.Outside low x high → low ≤ x → x ≤ high → ⊥
+out-in (inl o) h g = omega arith
+out-in (inr o) h g = omega arith
+
+pub not-out : (low x high : ℕ) → ¬ w.Outside low x high → (low ≤ x) × (x ≤ high)
+not-out low x high n =
+    let l : ¬ (x < low) = λ h. n (inl h) in
+    let u : ¬ (high < x) = λ h. n (inr h) in
+    (omega arith, omega arith)
+
+pub fails-within : (low x high : ℕ) → Fails (w.Outside low x high) (within low x high)
+fails-within low x high = fails-and (fails-most low x) (fails-most x high)
+
+module _ (m : List ℕ) where
+  abbrev SomeForm : Type 0
+  SomeForm = ((((((length m < 88) ⊎ (¬ (at m 0 ≡ 1))) ⊎ w.Outside 1 (at m 4) 40000) ⊎ (¬ (at m 1 ≡ 72 + 16 * at m 4)))
+      ⊎ (¬ (at m 2 ≡ 8))) ⊎ (¬ (at m 3 ≡ 72))) ⊎ (length m < at m 1)
+
+  no-pool : SomeForm → w.NoPool m
+  no-pool (inl (inl (inl (inl (inl (inl h)))))) = w.short h
+  no-pool (inl (inl (inl (inl (inl (inr h)))))) = w.form h
+  no-pool (inl (inl (inl (inl (inr h))))) = w.capacity-rule h
+  no-pool (inl (inl (inl (inr h)))) = w.total-rule h
+  no-pool (inl (inl (inr h))) = w.log-rule h
+  no-pool (inl (inr h)) = w.nodes-rule h
+  no-pool (inr h) = w.under h
+
+  some-form : w.NoPool m → SomeForm
+  some-form (w.short h) = inl (inl (inl (inl (inl (inl h)))))
+  some-form (w.form h) = inl (inl (inl (inl (inl (inr h)))))
+  some-form (w.capacity-rule h) = inl (inl (inl (inl (inr h))))
+  some-form (w.total-rule h) = inl (inl (inl (inr h)))
+  some-form (w.log-rule h) = inl (inl (inr h))
+  some-form (w.nodes-rule h) = inl (inr h)
+  some-form (w.under h) = inr h
+
+  -- 2
+  pub fails-form : Fails (w.NoPool m) (form-agrees m)
+  unfolding form-agrees
+  fails-form = fails-by no-pool some-form
+      (fails-and (fails-and (fails-and (fails-and (fails-and (fails-and
+      (fails-most 88 (length m)) (fails-equal (at m 0) 1)) (fails-within 1 (at m 4) 40000))
+      (fails-equal (at m 1) (72 + 16 * at m 4))) (fails-equal (at m 2) 8)) (fails-equal (at m 3) 72)) (fails-most (at m 1) (length m)))
+
+  abbrev SomeCount : Type 0
+  SomeCount = (w.Outside 1 (at m 5) (at m 4) ⊎ w.Outside 1 (at m 6) (at m 5)) ⊎ w.Outside 1 (at m 7) 8
+
+  bad-counts : SomeCount → w.BadCounts m
+  bad-counts (inl (inl h)) = w.used h
+  bad-counts (inl (inr h)) = w.root h
+  bad-counts (inr h) = w.height h
+
+  some-count : w.BadCounts m → SomeCount
+  some-count (w.used h) = inl (inl h)
+  some-count (w.root h) = inl (inr h)
+  some-count (w.height h) = inr h
+
+  -- 4, the header part
+  pub fails-counts : Fails (w.BadCounts m) (counts-agree m)
+  unfolding counts-agree
+  fails-counts = fails-by bad-counts some-count
+      (fails-and (fails-and (fails-within 1 (at m 5) (at m 4)) (fails-within 1 (at m 6) (at m 5))) (fails-within 1 (at m 7) 8))
+
+-- 6: the address of a pair, of each pair, and the log
+abbrev BadAddress : ℕ → ℕ → Type 0
+BadAddress total a = ((a < 5) ⊎ ((8 ≤ a) × (a ≤ 71))) ⊎ (total ≤ a)
+
+fails-address : (total a : ℕ) → Fails (BadAddress total a) (may-store total a)
+fails-address total a =
+    fails-and (fails-and (fails-most 5 a) (not-fails (tells-and (tells-most 8 a) (tells-most a 71)))) (fails-less a total)
+
+abbrev BadPair : List ℕ → ℕ → ℕ → Type 0
+BadPair m n x = (i : ℕ) × (i < n) × BadAddress (total-in m) (at m (x + 2 * i))
+
+moved : (m : List ℕ) {x y : ℕ} → x ≡ y → BadAddress (total-in m) (at m x) → BadAddress (total-in m) (at m y)
+moved m e b = rw (← e) b
+
+fails-pairs : (m : List ℕ) (n x : ℕ) → Fails (BadPair m n x) (all-may-store (total-in m) (log-pairs n x m))
+unfolding all-may-store log-pairs
+fails-pairs m zero x = keeps (λ p. omega (arith, p .1))
+fails-pairs m (suc n) x =
+    fails-by to from (fails-and (fails-address (total-in m) (at m x)) (fails-pairs m n (x + 2)))
+  where
+    to : BadAddress (total-in m) (at m x) ⊎ BadPair m n (x + 2) → BadPair m (suc n) x
+    to (inl b) = (0, omega arith, moved m (omega arith) b)
+    to (inr p) = (suc (p .0), omega (arith, p .1), moved m (omega arith) (p .2))
+
+    from : BadPair m (suc n) x → BadAddress (total-in m) (at m x) ⊎ BadPair m n (x + 2)
+    from (zero, h, b) = inl (moved m (omega arith) b)
+    from (suc i, h, b) = inr (i, omega arith, moved m (omega arith) b)
+
+pub fails-log : (m : List ℕ) → Fails (w.BadLog m) (log-agrees m)
+unfolding log-agrees
+fails-log m = fails-by to from (fails-and (fails-most (at m 8) 31) (fails-pairs m (at m 8) 9))
+  where
+    to : (31 < at m 8) ⊎ BadPair m (at m 8) 9 → w.BadLog m
+    to (inl h) = w.many h
+    to (inr (i, h, inl (inl l))) = w.low i h l
+    to (inr (i, h, inl (inr l))) = w.in-log i h (l .0) (l .1)
+    to (inr (i, h, inr l)) = w.high i h l
+
+    from : w.BadLog m → (31 < at m 8) ⊎ BadPair m (at m 8) 9
+    from (w.many h) = inl h
+    from (w.low i h l) = inr (i, h, inl (inl l))
+    from (w.in-log i h l k) = inr (i, h, inl (inr (l, k)))
+    from (w.high i h l) = inr (i, h, inr l)
+
+-- with commit word 0 no pair is looked at
+pub tells-log : (m : List ℕ) → Tells (w.BadLog m) (not (eqb (commit-of m) 0) && not (log-agrees m))
+tells-log m = go (tells-equal (at m 8) 0) (not-tells (fails-log m))
+  where
+    go : {a b : Bool} → Tells (at m 8 ≡ 0) a → Tells (w.BadLog m) b → Tells (w.BadLog m) (not a && b)
+    go (is e) t = isnt clean
+      where
+        clean : w.BadLog m → ⊥
+        clean (w.many h) = omega arith
+        clean (w.low i h l) = omega arith
+        clean (w.in-log i h l k) = omega arith
+        clean (w.high i h l) = omega arith
+    go (isnt n) t = t
+
+-- 12: an event that can be carried out
+abbrev pub carries : List ℕ → Option Event → Bool
+carries m none = false
+carries m (some e) = inside m e
+
+module _ (m l : List ℕ) (n : ℕ) where
+  abbrev kind : ℕ
+  kind = w.kind-at l n
+
+  abbrev word : ℕ
+  word = w.number-at l n
+
+  -- what is left of 12 for an event that is in the list, by its kind
+  module _ (some-event : 1 ≤ n) (in-list : 2 * n ≤ length l) where
+    rest : (P : Type 0) → (w.Outside 1 kind 3 → P) → (kind ≡ 1 → length m ≤ word → P) → (kind ≡ 2 → length m ≤ 8 * word → P)
+        → w.NoEvent m l n → P
+    rest P a b c (w.none (inl z)) = absurd (omega arith)
+    rest P a b c (w.none (inr h)) = absurd (omega arith)
+    rest P a b c (w.kind h) = a h
+    rest P a b c (w.word e h) = b e h
+    rest P a b c (w.line e h) = c e h
+
+    fails-kind : Fails (w.NoEvent m l n) (carries m (event-of kind word (at l (2 * n - 1))))
+    fails-kind = go (tells-equal kind 1) (tells-equal kind 2) (tells-equal kind 3)
+      where
+        go : {a b c : Bool} → Tells (kind ≡ 1) a → Tells (kind ≡ 2) b → Tells (kind ≡ 3) c
+            → Fails (w.NoEvent m l n) (carries m (if a then some (store word (at l (2 * n - 1)))
+            else if b then some (flush word) else if c then some fence else none))
+        go (is p) b c =
+            fails-by (w.word p) (rest (length m ≤ word) (λ o. absurd (out-in o (omega arith) (omega arith))) (λ e h. h)
+            (λ e h. absurd (omega arith))) (fails-less word (length m))
+        go (isnt p) (is q) c =
+            fails-by (λ h. w.line q (omega arith)) (rest (length m ≤ word * 8) (λ o. absurd (out-in o (omega arith) (omega arith)))
+            (λ e h. absurd (p e)) (λ e h. omega arith)) (fails-less (word * 8) (length m))
+        go (isnt p) (isnt q) (is r) = keeps (rest ⊥ (λ o. out-in o (omega arith) (omega arith)) (λ e h. p e) (λ e h. q e))
+        go (isnt p) (isnt q) (isnt r) = breaks (w.kind (outside kind p q r))
+          where
+            outside : (k : ℕ) → ¬ (k ≡ 1) → ¬ (k ≡ 2) → ¬ (k ≡ 3) → w.Outside 1 k 3
+            outside zero p q r = inl (omega arith)
+            outside (suc k) p q r = inr (omega arith)
+
+  pub fails-event : Fails (w.NoEvent m l n) (carries m (event-at l n))
+  fails-event = go (fails-within 1 n (length l / 2))
+    where
+      go : {a : Bool} → Fails (w.Outside 1 n (length l / 2)) a
+          → Fails (w.NoEvent m l n) (carries m (if a then event-of kind word (at l (2 * n - 1)) else none))
+      go (breaks (inl h)) = breaks (w.none (inl (omega arith)))
+      go (breaks (inr h)) = breaks (w.none (inr (omega arith)))
+      go (keeps p) = let i = not-out 1 n (length l / 2) p in fails-kind (i .0) (omega (arith, i .1))
