@@ -2,7 +2,7 @@
 use Prim.Native.Nat.{ℕ, zero, suc, _+_, _-_, _*_, _/_, _≤_, _<_}
 use mathlib.Core.Path.{_≡_, refl, sym}
 use mathlib.Core.Logic.{_⊎_, inl, inr, ⊎-elim}
-use mathlib.Core.List.{List}
+use mathlib.Core.List.{List, _∷_}
 use mathlib.Core.Bool.{Bool, true, false, not, _&&_}
 use mathlib.Core.Option.{Option, none, some}
 use native.Mathlib.Omega.{arith}
@@ -66,6 +66,12 @@ pub not-fails : {P : Type 0} {b : Bool} → Tells P b → Fails P (not b)
 not-fails (is p) = breaks p
 not-fails (isnt n) = keeps n
 
+-- a row: a test that tells its condition, and what is answered where it passes, and where it fails
+pub row : {C : Type 0} {b : Bool} (k : ℕ) (rows : w.Rows) {P : Type 0} (number : P → ℕ) (x y : P) → Tells C b → number x ≡ k
+    → (¬ C → w.Says rows (number y)) → w.Says ((C, k) ∷ rows) (number (if b then x else y))
+row k rows number x y (is c) e h = inl (c, e)
+row k rows number x y (isnt n) e h = inr (n, h n)
+
 -- one of two tests fails
 pub fails-and : {P Q : Type 0} {a b : Bool} → Fails P a → Fails Q b → Fails (P ⊎ Q) (a && b)
 fails-and (breaks p) q = breaks (inl p)
@@ -90,7 +96,7 @@ tells-most a b = go (leb a b) refl
     go true e = is (leb-true a b e)
     go false e = let h : b < a = leb-false a b e in isnt (λ l. omega arith)
 
-fails-most : (a b : ℕ) → Fails (b < a) (leb a b)
+pub fails-most : (a b : ℕ) → Fails (b < a) (leb a b)
 fails-most a b = fails-by (λ n. omega arith) (λ h l. omega arith) (fails-told (tells-most a b))
 
 pub fails-equal : (a b : ℕ) → Fails (¬ (a ≡ b)) (eqb a b)

@@ -38,16 +38,10 @@ use Rattle.change.specs.Check.{Examined, refuse, check-past-gate, walked
 use Rattle.change.specs.Calls as calls
 use Rattle.change.specs.Conditions as w
 use Rattle.change.specs.Conditions.{Rows, Says, carry-says}
-use Rattle.change.proofs.Conditions.{Fails, breaks, keeps, not-tells, tells-less, fails-equal, fails-within, fails-form}
+use Rattle.change.proofs.Conditions.{row, Fails, breaks, keeps, not-tells, tells-less, fails-equal, fails-within, fails-form}
 use Rattle.change.proofs.Conditions.{fails-counts, tells-log, carries, fails-event}
 use Rattle.change.proofs.ConditionsPath.{lost, tells-damaged}
 use Rattle.change.proofs.ConditionsRoom.{tells-no-room, tells-eight}
-
--- a row: a test that tells its condition, and what is answered where it passes, and where it fails
-row : {C : Type 0} {b : Bool} (k : ℕ) (rows : Rows) {P : Type 0} (number : P → ℕ) (x y : P) → Tells C b → number x ≡ k
-    → Says rows (number y) → Says ((C, k) ∷ rows) (number (if b then x else y))
-row k rows number x y (is c) e h = inl (c, e)
-row k rows number x y (isnt n) e h = inr (n, h)
 
 -- the number of what a call plans
 abbrev by-outcome : Planned Outcome → ℕ
@@ -67,15 +61,15 @@ unfolding format-past-list
 format-numbers m l capacity =
     let eighth : Rows = (length m < 72 + 16 * capacity, 8) ∷ [] in
     row 1 ((w.Outside 1 capacity 40000, 7) ∷ eighth) by-formatted _ _ (tells-less (length l) 372) refl
-    (row 7 eighth by-formatted _ _ (not-tells (fails-within 1 capacity 40000)) refl
-    (row 8 [] by-formatted _ _ (tells-less (length m) (72 + 16 * capacity)) refl refl))
+    (λ n. row 7 eighth by-formatted _ _ (not-tells (fails-within 1 capacity 40000)) refl
+    (λ n. row 8 [] by-formatted _ _ (tells-less (length m) (72 + 16 * capacity)) refl (λ n. refl)))
 
 pub recover-numbers : (m l : List ℕ) → Says (w.recover-rows m l) (recovery-says (calls.recover-answer m l) .0)
 unfolding recover-past-form
 recover-numbers m l =
     let sixth : Rows = (w.BadLog m, 6) ∷ [] in
     row 1 ((w.NoPool m, 2) ∷ sixth) by-recovery _ _ (tells-less (length l) 372) refl
-    (row 2 sixth by-recovery _ _ (not-tells (fails-form m)) refl (go (eqb (commit-of m) 0) (log-agrees m) _ (tells-log m) refl))
+    (λ n. row 2 sixth by-recovery _ _ (not-tells (fails-form m)) refl (λ n. go (eqb (commit-of m) 0) (log-agrees m) _ (tells-log m) refl))
   where
     go : (b d : Bool) (p : Planned Recovery) → Tells (w.BadLog m) (not b && not d) → by-recovery p ≡ 0
         → Says ((w.BadLog m, 6) ∷ []) (by-recovery (if b then quiet r.Clean else if not d then quiet (r.Refused BadLog) else p))
@@ -89,7 +83,7 @@ gate : (m : List ℕ) (rows : Rows) {P : Type 0} (number : P → ℕ) (refuse : 
     → Says ((w.NoPool m, 2) ∷ (w.Unfinished m, 3) ∷ rows) (number (past-gate refuse m y))
 gate m rows number refuse y e f h =
     row 2 ((w.Unfinished m, 3) ∷ rows) number _ _ (not-tells (fails-form m)) e
-    (row 3 rows number _ _ (not-tells (fails-equal (commit-of m) 0)) f h)
+    (λ n. row 3 rows number _ _ (not-tells (fails-equal (commit-of m) 0)) f (λ n. h))
 
 -- 4, then the rows of what is done at the leaf
 leaf-rows : (m : List ℕ) (key : ℕ) (body : ℕ → List ℕ → Planned Outcome) (rows : Rows)
@@ -137,13 +131,13 @@ pub put-numbers : (m l : List ℕ) (key value : ℕ) → Says (w.put-rows m l ke
 put-numbers m l key value =
     let at-leaf-rows : Rows = (w.NoRoom m key, 5) ∷ (w.SplitsEight m key, 4) ∷ [] in
     row 1 ((w.NoPool m, 2) ∷ (w.Unfinished m, 3) ∷ (w.Damaged m key, 4) ∷ at-leaf-rows) by-outcome _ _ (tells-less (length l) 372) refl
-    (key-rows m key (put-at m key value) at-leaf-rows (put-at-leaf m key value))
+    (λ n. key-rows m key (put-at m key value) at-leaf-rows (put-at-leaf m key value))
 
 pub delete-numbers : (m l : List ℕ) (key : ℕ) → Says (w.delete-rows m l key) (outcome-says (calls.delete-answer m l key .outcome) .0)
 unfolding delete-at
 delete-numbers m l key =
     row 1 (w.fetch-rows m key) by-outcome _ _ (tells-less (length l) 372) refl
-    (key-rows m key (delete-at m key) [] (λ k above e. go (has key (keys (view m k .records))) _ refl))
+    (λ n. key-rows m key (delete-at m key) [] (λ k above e. go (has key (keys (view m k .records))) _ refl))
   where
     go : (h : Bool) (x : Planned Outcome) → by-outcome x ≡ 0 → by-outcome (if h then x else quiet o.Absent) ≡ 0
     go true x e = e
@@ -154,7 +148,7 @@ unfolding check-past-gate
 check-numbers m marks =
     gate m ((length marks < capacity-of m, 11) ∷ (w.BadCounts m, 4) ∷ []) by-checked (refuse marks) _ refl refl
     (row 11 ((w.BadCounts m, 4) ∷ []) by-checked _ _ (tells-less (length marks) (capacity-of m)) refl
-    (row 4 [] by-checked _ _ (not-tells (fails-counts m)) refl (ended (walk m marks))))
+    (λ n. row 4 [] by-checked _ _ (not-tells (fails-counts m)) refl (λ n. ended (walk m marks))))
   where
     ended : (x : Walk) → check-says (walked x) .0 ≡ 0
     ended (fault k g) = refl

@@ -131,7 +131,7 @@ module _ (m : List ℕ) (k : ℕ) where
   named-is : (i : ℕ) → i < w.count m k → getD ns i 0 ≡ w.name m k i
   named-is i h = rw (view-names m k) (name-is i h)
 
-  pub key-is : (i : ℕ) → i < w.count m k → getD ks i 0 ≡ w.key-in m k i
+  key-is : (i : ℕ) → i < w.count m k → getD ks i 0 ≡ w.key-in m k i
   key-is i h = key-at-place m k i h ∙ rw (name-is i h) refl
 
   -- "a key outside its node's cover"
