@@ -23,3 +23,4 @@ pub mod Cases
 pub mod Tight
 pub mod OurPools
 pub mod Instance
+pub mod Refused
