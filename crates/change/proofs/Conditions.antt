@@ -1,119 +1,21 @@
 -- The conditions of 01's table that look at the lent words alone: each is what the test of its definition tells.
 use Prim.Native.Nat.{ℕ, zero, suc, _+_, _-_, _*_, _/_, _≤_, _<_}
-use mathlib.Core.Path.{_≡_, refl, sym}
-use mathlib.Core.Logic.{_⊎_, inl, inr, ⊎-elim}
-use mathlib.Core.List.{List, _∷_}
-use mathlib.Core.Bool.{Bool, true, false, not, _&&_}
+use mathlib.Core.Path.{_≡_}
+use mathlib.Core.Logic.{_⊎_, inl, inr}
+use mathlib.Core.List.{List}
+use mathlib.Core.Bool.{Bool, false, not, _&&_}
 use mathlib.Core.Option.{Option, none, some}
 use native.Mathlib.Omega.{arith}
 use lib.ListN.{length}
-use lib.Dec.{ltb, leb, eqb}
-use borrow.Author.Tests.{ltb-true, ltb-false, leb-true, leb-false}
-use Rattle.words.specs.Tests.{if_then_else_, within}
+use lib.Dec.{eqb}
+use Rattle.words.specs.Tests.{if_then_else_}
 use Rattle.words.specs.Event.{Event, store, flush, fence, at, event-of, event-at}
 use Rattle.words.specs.Carry.{inside}
-use Rattle.words.proofs.Tests.{Tells, is, isnt, tells-equal, tells-and, differ}
+use Rattle.words.proofs.Fails.{Fails, breaks, fails-and, fails-by, fails-equal, fails-less, fails-most, fails-within, keeps, not-fails, not-out, not-tells, out-in, tells-most}
+use Rattle.words.proofs.Tests.{Tells, is, isnt, tells-equal, tells-and}
 use Rattle.tree.specs.Header.{form-agrees, counts-agree, commit-of, total-in}
 use Rattle.change.specs.Recover.{log-pairs, may-store, all-may-store, log-agrees}
 use Rattle.change.specs.Conditions as w
-
--- the test b fails exactly where P
-pub data Fails (P : Type 0) : Bool → Type 0 where
-  breaks : P → Fails P false
-  keeps : ¬ P → Fails P true
-
--- a test that tells P passes where P, and P where it passes
-pub sure : {P : Type 0} {b : Bool} → Tells P b → P → b ≡ true
-sure (is p) q = refl
-sure (isnt n) q = absurd (n q)
-
-pub told : {P : Type 0} {b : Bool} → Tells P b → b ≡ true → P
-told (is p) e = p
-told (isnt n) e = absurd (differ (sym e))
-
--- a test that P fails does so where P, and P where it fails
-pub failing : {P : Type 0} {b : Bool} → Fails P b → P → b ≡ false
-failing (breaks p) q = refl
-failing (keeps n) q = absurd (n q)
-
-pub why-failed : {P : Type 0} {b : Bool} → Fails P b → b ≡ false → P
-why-failed (breaks p) e = p
-why-failed (keeps n) e = absurd (differ e)
-
--- the same told in other words
-pub tells-by : {P Q : Type 0} {b : Bool} → (P → Q) → (Q → P) → Tells P b → Tells Q b
-tells-by f g (is p) = is (f p)
-tells-by f g (isnt n) = isnt (λ q. n (g q))
-
-pub fails-by : {P Q : Type 0} {b : Bool} → (P → Q) → (Q → P) → Fails P b → Fails Q b
-fails-by f g (breaks p) = breaks (f p)
-fails-by f g (keeps n) = keeps (λ q. n (g q))
-
--- a test, and its negation
-fails-told : {P : Type 0} {b : Bool} → Tells P b → Fails (¬ P) b
-fails-told (is p) = keeps (λ n. n p)
-fails-told (isnt n) = breaks n
-
-pub not-tells : {P : Type 0} {b : Bool} → Fails P b → Tells P (not b)
-not-tells (breaks p) = is p
-not-tells (keeps n) = isnt n
-
-pub tells-not : {P : Type 0} (b : Bool) → Tells P (not b) → Fails P b
-tells-not true (isnt n) = keeps n
-tells-not false (is p) = breaks p
-
-pub not-fails : {P : Type 0} {b : Bool} → Tells P b → Fails P (not b)
-not-fails (is p) = breaks p
-not-fails (isnt n) = keeps n
-
--- a row: a test that tells its condition, and what is answered where it passes, and where it fails
-pub row : {C : Type 0} {b : Bool} (k : ℕ) (rows : w.Rows) {P : Type 0} (number : P → ℕ) (x y : P) → Tells C b → number x ≡ k
-    → (¬ C → w.Says rows (number y)) → w.Says ((C, k) ∷ rows) (number (if b then x else y))
-row k rows number x y (is c) e h = inl (c, e)
-row k rows number x y (isnt n) e h = inr (n, h n)
-
--- one of two tests fails
-pub fails-and : {P Q : Type 0} {a b : Bool} → Fails P a → Fails Q b → Fails (P ⊎ Q) (a && b)
-fails-and (breaks p) q = breaks (inl p)
-fails-and (keeps n) (breaks q) = breaks (inr q)
-fails-and (keeps n) (keeps k) = keeps (⊎-elim n k)
-
--- tests of numbers
-pub tells-less : (a b : ℕ) → Tells (a < b) (ltb a b)
-tells-less a b = go (ltb a b) refl
-  where
-    go : (t : Bool) → ltb a b ≡ t → Tells (a < b) t
-    go true e = is (ltb-true a b e)
-    go false e = let h : b ≤ a = ltb-false a b e in isnt (λ l. omega arith)
-
-fails-less : (a b : ℕ) → Fails (b ≤ a) (ltb a b)
-fails-less a b = fails-by (λ n. omega arith) (λ h l. omega arith) (fails-told (tells-less a b))
-
-pub tells-most : (a b : ℕ) → Tells (a ≤ b) (leb a b)
-tells-most a b = go (leb a b) refl
-  where
-    go : (t : Bool) → leb a b ≡ t → Tells (a ≤ b) t
-    go true e = is (leb-true a b e)
-    go false e = let h : b < a = leb-false a b e in isnt (λ l. omega arith)
-
-pub fails-most : (a b : ℕ) → Fails (b < a) (leb a b)
-fails-most a b = fails-by (λ n. omega arith) (λ h l. omega arith) (fails-told (tells-most a b))
-
-pub fails-equal : (a b : ℕ) → Fails (¬ (a ≡ b)) (eqb a b)
-fails-equal a b = fails-told (tells-equal a b)
-
-pub out-in : {low x high : ℕ} → w.Outside low x high → low ≤ x → x ≤ high → ⊥
-out-in (inl o) h g = omega arith
-out-in (inr o) h g = omega arith
-
-pub not-out : (low x high : ℕ) → ¬ w.Outside low x high → (low ≤ x) × (x ≤ high)
-not-out low x high n =
-    let l : ¬ (x < low) = λ h. n (inl h) in
-    let u : ¬ (high < x) = λ h. n (inr h) in
-    (omega arith, omega arith)
-
-pub fails-within : (low x high : ℕ) → Fails (w.Outside low x high) (within low x high)
-fails-within low x high = fails-and (fails-most low x) (fails-most x high)
 
 module _ (m : List ℕ) where
   abbrev SomeForm : Type 0

@@ -10,10 +10,12 @@ use lib.Dec.{ltb, eqb}
 use Rattle.words.specs.Tests.{if_then_else_}
 use Rattle.words.specs.Pool.{height-most}
 use Rattle.words.specs.Event.{Event, event-at}
+use Rattle.words.specs.Answers.{carried-says}
 use Rattle.words.specs.Carry.{carried, inside}
 use Rattle.words.specs.declared.refusal.Refusal.{Refusal}
 use Rattle.words.specs.declared.refusal.Refusal.the-variants.{NoPool, Unfinished, Damaged, NoRoom, BadLog, NoEvent}
 use Rattle.words.specs.declared.carry.Carried.the-variants.{Done, Refused}
+use Rattle.words.proofs.Fails.{row, Fails, breaks, keeps, not-tells, tells-less, fails-equal, fails-within}
 use Rattle.words.proofs.Tests.{Tells, is, isnt}
 use Rattle.node.specs.Lists.{has}
 use Rattle.node.specs.View.{view, keys}
@@ -37,26 +39,26 @@ use Rattle.change.specs.Put.{put-at, needed}
 use Rattle.change.specs.Check.{Examined, refuse, check-past-gate, walked}
 use Rattle.change.specs.Calls as calls
 use Rattle.change.specs.Conditions as w
-use Rattle.change.specs.Conditions.{Rows, Says, carry-says}
-use Rattle.change.proofs.Conditions.{row, Fails, breaks, keeps, not-tells, tells-less, fails-equal, fails-within, fails-form}
+use Rattle.change.specs.Conditions.{Rows, Says}
+use Rattle.change.proofs.Conditions.{fails-form}
 use Rattle.change.proofs.Conditions.{fails-counts, tells-log, carries, fails-event}
 use Rattle.change.proofs.ConditionsPath.{lost, tells-damaged}
 use Rattle.change.proofs.ConditionsRoom.{tells-no-room, tells-eight}
 
 -- the number of what a call plans
 abbrev by-outcome : Planned Outcome → ℕ
-by-outcome p = outcome-says (p .answer) .0
+by-outcome p = outcome-says (p .answer) .1
 
 abbrev by-formatted : Planned Formatted → ℕ
-by-formatted p = format-says (p .answer) .0
+by-formatted p = format-says (p .answer) .1
 
 abbrev by-recovery : Planned Recovery → ℕ
-by-recovery p = recovery-says (p .answer) .0
+by-recovery p = recovery-says (p .answer) .1
 
 abbrev by-checked : Examined → ℕ
-by-checked x = check-says (x .answer) .0
+by-checked x = check-says (x .answer) .1
 
-pub format-numbers : (m l : List ℕ) (capacity : ℕ) → Says (w.format-rows m l capacity) (format-says (calls.format-answer m l capacity) .0)
+pub format-numbers : (m l : List ℕ) (capacity : ℕ) → Says (w.format-rows m l capacity) (format-says (calls.format-answer m l capacity) .1)
 unfolding format-past-list
 format-numbers m l capacity =
     let eighth : Rows = (length m < 72 + 16 * capacity, 8) ∷ [] in
@@ -64,7 +66,7 @@ format-numbers m l capacity =
     (λ n. row 7 eighth by-formatted _ _ (not-tells (fails-within 1 capacity 40000)) refl
     (λ n. row 8 [] by-formatted _ _ (tells-less (length m) (72 + 16 * capacity)) refl (λ n. refl)))
 
-pub recover-numbers : (m l : List ℕ) → Says (w.recover-rows m l) (recovery-says (calls.recover-answer m l) .0)
+pub recover-numbers : (m l : List ℕ) → Says (w.recover-rows m l) (recovery-says (calls.recover-answer m l) .1)
 unfolding recover-past-form
 recover-numbers m l =
     let sixth : Rows = (w.BadLog m, 6) ∷ [] in
@@ -103,10 +105,10 @@ key-rows : (m : List ℕ) (key : ℕ) (body : ℕ → List ℕ → Planned Outco
     (by-outcome (past-gate refused m (at-leaf body (way-to m key))))
 key-rows m key body rows h = gate m ((w.Damaged m key, 4) ∷ rows) by-outcome refused _ refl refl (leaf-rows m key body rows h)
 
-pub fetch-numbers : (m : List ℕ) (key : ℕ) → Says (w.fetch-rows m key) (outcome-says (calls.fetch-answer m key) .0)
+pub fetch-numbers : (m : List ℕ) (key : ℕ) → Says (w.fetch-rows m key) (outcome-says (calls.fetch-answer m key) .1)
 fetch-numbers m key = key-rows m key (fetch-at m key) [] (λ k above e. found (find key (view m k .records)))
   where
-    found : (v : Option ℕ) → outcome-says (said v) .0 ≡ 0
+    found : (v : Option ℕ) → outcome-says (said v) .1 ≡ 0
     found none = refl
     found (some v) = refl
 
@@ -127,13 +129,13 @@ put-at-leaf m key value k above e =
     go false true false true x y z p q s (isnt n) (is c) = inr (n, inl (c, refl))
     go false true false false x y z p q s (isnt n) (isnt t) = inr (n, inr (t, s))
 
-pub put-numbers : (m l : List ℕ) (key value : ℕ) → Says (w.put-rows m l key) (outcome-says (calls.put-answer m l key value .outcome) .0)
+pub put-numbers : (m l : List ℕ) (key value : ℕ) → Says (w.put-rows m l key) (outcome-says (calls.put-answer m l key value .outcome) .1)
 put-numbers m l key value =
     let at-leaf-rows : Rows = (w.NoRoom m key, 5) ∷ (w.SplitsEight m key, 4) ∷ [] in
     row 1 ((w.NoPool m, 2) ∷ (w.Unfinished m, 3) ∷ (w.Damaged m key, 4) ∷ at-leaf-rows) by-outcome _ _ (tells-less (length l) 372) refl
     (λ n. key-rows m key (put-at m key value) at-leaf-rows (put-at-leaf m key value))
 
-pub delete-numbers : (m l : List ℕ) (key : ℕ) → Says (w.delete-rows m l key) (outcome-says (calls.delete-answer m l key .outcome) .0)
+pub delete-numbers : (m l : List ℕ) (key : ℕ) → Says (w.delete-rows m l key) (outcome-says (calls.delete-answer m l key .outcome) .1)
 unfolding delete-at
 delete-numbers m l key =
     row 1 (w.fetch-rows m key) by-outcome _ _ (tells-less (length l) 372) refl
@@ -143,24 +145,24 @@ delete-numbers m l key =
     go true x e = e
     go false x e = refl
 
-pub check-numbers : (m marks : List ℕ) → Says (w.check-rows m marks) (check-says (calls.check-answer m marks) .0)
+pub check-numbers : (m marks : List ℕ) → Says (w.check-rows m marks) (check-says (calls.check-answer m marks) .1)
 unfolding check-past-gate
 check-numbers m marks =
     gate m ((length marks < capacity-of m, 11) ∷ (w.BadCounts m, 4) ∷ []) by-checked (refuse marks) _ refl refl
     (row 11 ((w.BadCounts m, 4) ∷ []) by-checked _ _ (tells-less (length marks) (capacity-of m)) refl
     (λ n. row 4 [] by-checked _ _ (not-tells (fails-counts m)) refl (λ n. ended (walk m marks))))
   where
-    ended : (x : Walk) → check-says (walked x) .0 ≡ 0
+    ended : (x : Walk) → check-says (walked x) .1 ≡ 0
     ended (fault k g) = refl
     ended (going s) = refl
 
-pub carry-numbers : (m l : List ℕ) (n : ℕ) → Says (w.carry-rows m l n) (carry-says (carried m (event-at l n)))
+pub carry-numbers : (m l : List ℕ) (n : ℕ) → Says (w.carry-rows m l n) (carried-says (carried m (event-at l n)) .1)
 carry-numbers m l n = go (event-at l n) (fails-event m l n)
   where
-    go : (x : Option Event) → Fails (w.NoEvent m l n) (carries m x) → Says (w.carry-rows m l n) (carry-says (carried m x))
+    go : (x : Option Event) → Fails (w.NoEvent m l n) (carries m x) → Says (w.carry-rows m l n) (carried-says (carried m x) .1)
     go none (breaks c) = inl (c, refl)
     go (some e) f = at-slice (inside m e) f
       where
-        at-slice : (b : Bool) → Fails (w.NoEvent m l n) b → Says (w.carry-rows m l n) (carry-says (if b then Done else Refused NoEvent))
+        at-slice : (b : Bool) → Fails (w.NoEvent m l n) b → Says (w.carry-rows m l n) (carried-says (if b then Done else Refused NoEvent) .1)
         at-slice true (keeps h) = inr (h, refl)
         at-slice false (breaks c) = inl (c, refl)

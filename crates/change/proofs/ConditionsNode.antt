@@ -9,6 +9,7 @@ use lib.ListN.{length, getD}
 use lib.Dec.{ltb, leb, eqb}
 use lib.Pow.{shr-shr}
 use Rattle.words.specs.Event.{at}
+use Rattle.words.proofs.Fails.{Fails, tells-by, fails-by, fails-equal, not-tells, tells-not, not-fails, tells-less, tells-most}
 use Rattle.words.proofs.Tests.{Tells, is, tells-and}
 use Rattle.node.specs.Lists.{has, all-below, different, rising, covered}
 use Rattle.node.specs.Slot.{byte, names}
@@ -19,8 +20,6 @@ use Rattle.node.proofs.Slots.{length-names}
 use Rattle.node.proofs.Views.{view-names, keys-many, key-at-place}
 use Rattle.tree.specs.Kids.{leaf-least, inner-least}
 use Rattle.change.specs.Conditions as w
-use Rattle.change.proofs.Conditions.{Fails, tells-by, fails-by, fails-equal, not-tells, tells-not, not-fails}
-use Rattle.change.proofs.Conditions.{tells-less, tells-most}
 
 -- "at least 1 if inner"
 abbrev pub least : ℕ → ℕ

@@ -6,6 +6,7 @@ use mathlib.Core.List.{List, [], _∷_}
 use mathlib.Core.Bool.{Bool, true, false}
 use Rattle.words.specs.Tests.{within}
 use Rattle.words.specs.Event.{at}
+use Rattle.words.proofs.Fails.{Fails, breaks, keeps, sure, told, fails-within, not-out, out-in}
 use Rattle.words.proofs.Tests.{Tells, is, isnt, tells-and, within-of, within-says}
 use Rattle.node.specs.View.{view, good}
 use Rattle.node.proofs.Views.{good-parts}
@@ -15,7 +16,7 @@ use Rattle.tree.specs.Path.{Way, failed, leaf, parent, way, levels-above, way-t
 use Rattle.tree.proofs.Path.{failed-not, passed}
 use Rattle.tree.proofs.Ways.{bad-header}
 use Rattle.change.specs.Conditions as w
-use Rattle.change.proofs.Conditions.{Fails, breaks, keeps, sure, told, fails-within, fails-counts, not-out, out-in}
+use Rattle.change.proofs.Conditions.{fails-counts}
 use Rattle.change.proofs.ConditionsNode.{least, tells-covered, tells-sound}
 use Rattle.change.proofs.ConditionsChild.{pick-child, child-picked}
 

@@ -12,6 +12,7 @@ use lib.Dec.{ltb}
 use Rattle.words.specs.Tests.{within}
 use Rattle.words.specs.Pool.{height-most}
 use Rattle.words.specs.Event.{at}
+use Rattle.words.proofs.Fails.{sure, told, failing, why-failed, tells-by, tells-less}
 use Rattle.words.proofs.Tests.{Tells, is, isnt, tells-equal, tells-and, differ, fails}
 use Rattle.node.specs.Lists.{has}
 use Rattle.node.specs.View.{view, keys}
@@ -23,7 +24,6 @@ use Rattle.tree.proofs.Path.{passed, way-length, way-to-counts, way-to-length}
 use Rattle.change.specs.Steps.{full}
 use Rattle.change.specs.Put.{needed}
 use Rattle.change.specs.Conditions as w
-use Rattle.change.proofs.Conditions.{sure, told, failing, why-failed, tells-by, tells-less}
 use Rattle.change.proofs.ConditionsNode.{names-many, fails-there}
 use Rattle.change.proofs.ConditionsChild.{pick-child}
 use Rattle.change.proofs.ConditionsPath.{through, fits-on}

@@ -6,22 +6,7 @@ use mathlib.Core.Logic.{_⊎_}
 use mathlib.Core.List.{List, [], _∷_}
 use lib.ListN.{length}
 use Rattle.words.specs.Event.{at}
-use Rattle.words.specs.Refusals.{number}
-use Rattle.words.specs.declared.carry.Carried.{Carried}
-use Rattle.words.specs.declared.carry.Carried.the-variants.{Done, Refused}
-
--- the rows of 01's table for a call, in 01's order: a condition, and its number
-abbrev pub Rows : Type 1
-Rows = List (Type 0 × ℕ)
-
--- the number answered is that of the first row whose condition holds, and 0, no refusal, where none does
-abbrev pub Says : Rows → ℕ → Type 0
-Says [] n = n ≡ 0
-Says (row ∷ rows) n = (row .0 × (n ≡ row .1)) ⊎ ((¬ row .0) × Says rows n)
-
--- x is not in low..high
-abbrev pub Outside : ℕ → ℕ → ℕ → Type 0
-Outside low x high = (x < low) ⊎ (high < x)
+pub use Rattle.words.specs.Refusals.{Rows, Says, Outside}
 
 -- 1: "event list under 372 words"
 abbrev pub ShortList : List ℕ → Type 0
@@ -156,11 +141,6 @@ pub data NoEvent (m l : List ℕ) (n : ℕ) : Type 0 where
   kind : Outside 1 (kind-at l n) 3 → NoEvent m l n
   word : kind-at l n ≡ 1 → length m ≤ number-at l n → NoEvent m l n
   line : kind-at l n ≡ 2 → length m ≤ 8 * number-at l n → NoEvent m l n
-
--- the number of what carrying out one event answers
-abbrev pub carry-says : Carried → ℕ
-carry-says Done = 0
-carry-says (Refused why) = number why
 
 -- The rows of each call. "Order: 9, 10, 1, then 7, 8 or 2, 3, 11, 4, 6, 5; the eight-level case of 4 after 5."
 

@@ -13,6 +13,7 @@ use Rattle.words.specs.Carry.{after-all}
 use Rattle.words.specs.declared.refusal.Refusal.{Refusal}
 use Rattle.words.specs.declared.refusal.Refusal.the-variants.{NoDesk, FullDesk}
 use Rattle.words.proofs.Tests.{Tells, is, isnt}
+use Rattle.words.proofs.Fails.{row, not-tells, tells-less, fails-most, fails-within, fails-and, not-out}
 use Rattle.change.specs.declared.Request.{Request}
 use Rattle.change.specs.declared.Request.the-variants.{Put, Fetch, Delete}
 use Rattle.change.specs.declared.Outcome.{Outcome}
@@ -20,7 +21,6 @@ use Rattle.change.specs.declared.Outcome.the-variants as o
 use Rattle.change.specs.Answers.{outcome-says}
 use Rattle.change.specs.Calls.{serve-answer, serve-list}
 use Rattle.change.specs.Conditions.{Says, ShortList}
-use Rattle.change.proofs.Conditions.{row, not-tells, tells-less, fails-most, fails-within, fails-and, not-out}
 use Rattle.pool.proofs.Demand1.{demand-1, some-number}
 use Rattle.desk.specs.declared.desk.Desk.{Desk}
 use Rattle.desk.specs.declared.desk.Desk.the-variants.{Empty, Holding}
@@ -46,12 +46,12 @@ with-is ds (suc i) h = let e : suc i - 1 ≡ i = omega arith in rw e refl
 
 -- submit: 9, then 10
 submit-numbers : (ds : List Desk) (member : ℕ) → Says ((w.NoMember ds member, 9) ∷ (w.FullDesk ds member, 10) ∷ [])
-    (submit-says (submit-answer ds member) .0)
+    (submit-says (submit-answer ds member) .1)
 unfolding submit-answer
 submit-numbers ds member =
-    row 9 ((w.FullDesk ds member, 10) ∷ []) (λ x. submit-says x .0) (s.Refused NoDesk) _
+    row 9 ((w.FullDesk ds member, 10) ∷ []) (λ x. submit-says x .1) (s.Refused NoDesk) _
     (not-tells (fails-and (fails-within 1 (length ds) 16) (fails-within 1 member (length ds)))) refl
-    (λ n. row 10 [] (λ x. submit-says x .0) (s.Refused FullDesk) s.Accepted
+    (λ n. row 10 [] (λ x. submit-says x .1) (s.Refused FullDesk) s.Accepted
     (tells-full (not-out 1 member (length ds) (λ o. n (inr o)) .0)) refl (λ n. refl))
   where
     tells-full : 1 ≤ member → Tells (w.FullDesk ds member) (full (held ds member))
@@ -78,7 +78,7 @@ past-one : {C R : Type 0} {n : ℕ} → ¬ C → (C × (n ≡ 1)) ⊎ ((¬ C) ×
 past-one n (inl c) = absurd (n (c .0))
 past-one n (inr h) = h .1
 
-request-numbers : (m l : List ℕ) (q : Request) → ¬ ShortList l → Says (w.request-rows m q) (outcome-says (serve-answer m l q .outcome) .0)
+request-numbers : (m l : List ℕ) (q : Request) → ¬ ShortList l → Says (w.request-rows m q) (outcome-says (serve-answer m l q .outcome) .1)
 request-numbers m l (Put key value) n = past-one n (demand-1 .put m l key value)
 request-numbers m l (Fetch key) n = demand-1 .fetch m key
 request-numbers m l (Delete key) n = past-one n (demand-1 .delete m l key)
@@ -126,14 +126,14 @@ module _ (m l : List ℕ) (ds : List Desk) (last : ℕ) where
       go (Holding q) = refl
 
   -- then those of the request that is served
-  whole-numbers : Says ((w.NoTurn ds last, 9) ∷ (ShortList l, 1) ∷ w.desk-rows m (held ds k)) (turned-says (left .answer .turned) .0)
+  whole-numbers : Says ((w.NoTurn ds last, 9) ∷ (ShortList l, 1) ∷ w.desk-rows m (held ds k)) (turned-says (left .answer .turned) .1)
   unfolding serve-turn
   whole-numbers =
-      row 9 ((ShortList l, 1) ∷ w.desk-rows m (held ds k)) (λ (x : Left). turned-says (x .answer .turned) .0) _ _ tells-nine refl
-      (λ n. row 1 (w.desk-rows m (held ds k)) (λ (x : Left). turned-says (x .answer .turned) .0) _ _ (tells-less (length l) 372) refl
+      row 9 ((ShortList l, 1) ∷ w.desk-rows m (held ds k)) (λ (x : Left). turned-says (x .answer .turned) .1) _ _ tells-nine refl
+      (λ n. row 1 (w.desk-rows m (held ds k)) (λ (x : Left). turned-says (x .answer .turned) .1) _ _ (tells-less (length l) 372) refl
       (go (held ds k)))
     where
-      go : (d : Desk) → ¬ ShortList l → Says (w.desk-rows m d) (turned-says (serve-desk m l last k d .answer .turned) .0)
+      go : (d : Desk) → ¬ ShortList l → Says (w.desk-rows m d) (turned-says (serve-desk m l last k d .answer .turned) .1)
       go Empty n = refl
       go (Holding q) n = request-numbers m l q n
 

@@ -81,12 +81,12 @@ pub record Answered (m l : List ℕ) (ds : List Desk) (last : ℕ) (why : Refusa
 pub record Refuses : Type 0 where
   -- the numbers of submit and turn, by the first row whose condition holds
   pub submit : (ds : List Desk) (member : ℕ) → Says ((NoMember ds member, 9) ∷ (FullDesk ds member, 10) ∷ [])
-      (submit-says (submit-answer ds member) .0)
+      (submit-says (submit-answer ds member) .1)
   pub turn-itself : (m l : List ℕ) (ds : List Desk) (last : ℕ) → Says ((NoTurn ds last, 9) ∷ (ShortList l, 1) ∷ [])
       (itself-says (turn m l ds last .answer .turned))
   pub turn-whole : (m l : List ℕ) (ds : List Desk) (last : ℕ)
       → Says ((NoTurn ds last, 9) ∷ (ShortList l, 1) ∷ desk-rows m (held ds (choose ds last)))
-      (turned-says (turn m l ds last .answer .turned) .0)
+      (turned-says (turn m l ds last .answer .turned) .1)
   -- "Each leaves everything lent unchanged and counts 0 events."
   pub submit-refused : (ds : List Desk) (member : ℕ) (q : Request) (why : Refusal) → submit-answer ds member ≡ s.Refused why
       → submit-desks ds member q ≡ ds

@@ -68,13 +68,13 @@ some-number ShortMarks = omega arith
 some-number NoEvent = omega arith
 
 -- so what has none is no refusal
-no-refusal : {A : Type 0} (refuse : Refusal → A) (says : A → Said) (p : Planned A) → ((why : Refusal) → says (refuse why) .0 ≡ number why)
-    → says (p .answer) .0 ≡ 0 → Quiet refuse p
+no-refusal : {A : Type 0} (refuse : Refusal → A) (says : A → Said) (p : Planned A) → ((why : Refusal) → says (refuse why) .1 ≡ number why)
+    → says (p .answer) .1 ≡ 0 → Quiet refuse p
 no-refusal refuse says p is none-is why e =
-    let same : says (p .answer) .0 ≡ number why = ap (λ a. says a .0) e ∙ is why in
+    let same : says (p .answer) .1 ≡ number why = ap (λ a. says a .1) e ∙ is why in
     absurd (omega (arith, some-number why))
 
-unrefused : (p : Planned Outcome) → outcome-says (p .answer) .0 ≡ 0 → Quiet o.Refused p
+unrefused : (p : Planned Outcome) → outcome-says (p .answer) .1 ≡ 0 → Quiet o.Refused p
 unrefused p e = no-refusal o.Refused outcome-says p (λ why. refl) e
 
 -- then the lent list is as it was

@@ -7,6 +7,7 @@ use Prim.Native.Nat.{ℕ}
 use mathlib.Core.Path.{_≡_}
 use mathlib.Core.List.{List}
 use Rattle.words.specs.Event.{event-at}
+use Rattle.words.specs.Answers.{carried-says}
 use Rattle.words.specs.Carry.{carried, after}
 use Rattle.words.specs.declared.refusal.Refusal.{Refusal}
 use Rattle.words.specs.declared.carry.Carried.the-variants as e
@@ -17,17 +18,17 @@ use Rattle.change.specs.declared.Recovery.the-variants as r
 use Rattle.change.specs.declared.Checked.the-variants as c
 use Rattle.change.specs.Answers.{outcome-says, format-says, recovery-says, check-says}
 use Rattle.change.specs.Calls as calls
-use Rattle.change.specs.Conditions.{Says, carry-says, format-rows, recover-rows, fetch-rows, put-rows, delete-rows, check-rows, carry-rows}
+use Rattle.change.specs.Conditions.{Says, format-rows, recover-rows, fetch-rows, put-rows, delete-rows, check-rows, carry-rows}
 
 pub record Demand1 : Type 0 where
   -- the number that each call answers is that of the first of its rows of 01's table whose condition holds, and 0 where none does
-  pub format : (m l : List ℕ) (capacity : ℕ) → Says (format-rows m l capacity) (format-says (calls.format-answer m l capacity) .0)
-  pub recover : (m l : List ℕ) → Says (recover-rows m l) (recovery-says (calls.recover-answer m l) .0)
-  pub fetch : (m : List ℕ) (key : ℕ) → Says (fetch-rows m key) (outcome-says (calls.fetch-answer m key) .0)
-  pub put : (m l : List ℕ) (key value : ℕ) → Says (put-rows m l key) (outcome-says (calls.put-answer m l key value .outcome) .0)
-  pub delete : (m l : List ℕ) (key : ℕ) → Says (delete-rows m l key) (outcome-says (calls.delete-answer m l key .outcome) .0)
-  pub check : (m g : List ℕ) → Says (check-rows m g) (check-says (calls.check-answer m g) .0)
-  pub carry-out : (m l : List ℕ) (n : ℕ) → Says (carry-rows m l n) (carry-says (carried m (event-at l n)))
+  pub format : (m l : List ℕ) (capacity : ℕ) → Says (format-rows m l capacity) (format-says (calls.format-answer m l capacity) .1)
+  pub recover : (m l : List ℕ) → Says (recover-rows m l) (recovery-says (calls.recover-answer m l) .1)
+  pub fetch : (m : List ℕ) (key : ℕ) → Says (fetch-rows m key) (outcome-says (calls.fetch-answer m key) .1)
+  pub put : (m l : List ℕ) (key value : ℕ) → Says (put-rows m l key) (outcome-says (calls.put-answer m l key value .outcome) .1)
+  pub delete : (m l : List ℕ) (key : ℕ) → Says (delete-rows m l key) (outcome-says (calls.delete-answer m l key .outcome) .1)
+  pub check : (m g : List ℕ) → Says (check-rows m g) (check-says (calls.check-answer m g) .1)
+  pub carry-out : (m l : List ℕ) (n : ℕ) → Says (carry-rows m l n) (carried-says (carried m (event-at l n)) .1)
   -- "Each leaves everything lent unchanged and counts 0 events."
   pub format-refused : (m l : List ℕ) (capacity : ℕ) (why : Refusal) → calls.format-answer m l capacity ≡ f.Refused why
       → calls.format-list m l capacity ≡ l

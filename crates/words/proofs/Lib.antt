@@ -1,5 +1,6 @@
 -- Laws of words, events and cuts, for the floors above.
 pub mod Tests
+pub mod Fails
 pub mod Answers
 pub mod Turns
 pub mod Lists

@@ -38,7 +38,7 @@ value-of fence = 0
 abbrev pub top-byte : ℕ
 top-byte = 2 ^ 56
 
--- "first the kind in the top byte with the word or line number below it, then the value stored"
+-- "first the kind in the top byte .. with the word or line number below it, then the value stored"
 abbrev pub first-word : Event → ℕ
 first-word e = kind-of e * top-byte + number-of e
 
