@@ -12,6 +12,7 @@ use Rattle.words.specs.Pool.{list-words, capacity-most, total-of, height-most}
 use Rattle.words.specs.Refusals.{number}
 use Rattle.words.specs.Event.{Event, step, event-at}
 use Rattle.words.specs.Written.{written}
+use Rattle.words.specs.Answers.{Said}
 use Rattle.words.specs.Carry.{inside, carried, after}
 use Rattle.words.specs.declared.refusal.Refusal.{Refusal}
 use Rattle.words.specs.declared.refusal.Refusal.the-variants.{ShortList, NoPool, Unfinished, Damaged, NoRoom, BadLog}
@@ -29,7 +30,7 @@ use Rattle.change.specs.declared.Outcome.the-variants as o
 use Rattle.change.specs.declared.Formatted.the-variants as f
 use Rattle.change.specs.declared.Recovery.the-variants as r
 use Rattle.change.specs.declared.Checked.the-variants as c
-use Rattle.change.specs.Answers.{Said, outcome-says, format-says, recovery-says}
+use Rattle.change.specs.Answers.{outcome-says, format-says, recovery-says}
 use Rattle.change.specs.Gate.{Planned, refused, list-after, at-leaf, past-list, past-gate}
 use Rattle.change.specs.Steps.{full}
 use Rattle.change.specs.Format.{format, format-past-list}

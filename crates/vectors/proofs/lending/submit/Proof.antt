@@ -23,7 +23,8 @@ use Rattle.desk.proofs.Frames.{all-unset}
 use Rattle.desk.specs.declared.desk.Desk.{Desk}
 use Rattle.change.specs.declared.Request.{Request}
 use Rattle.desk.specs.declared.answer.Submitted.{Submitted}
-use Rattle.desk.specs.Turn.{submit-answer, submit-desks}
+use Rattle.desk.specs.Turn.{submit-desks}
+use Rattle.desk.specs.Promises.{SubmitPromise}
 use Rattle.desk.proofs.desk.Desk as D
 use Rattle.desk.proofs.desk.Desk.Laws as D′
 use Rattle.change.proofs.Request as R
@@ -184,8 +185,8 @@ module _ {M : Type 1} (𝓤 : URA M) (H : Heap 𝓤) (A : Atoms 𝓤) (mem : Mem
             (ensured 𝓤 H A inner.ended (inner.clauses 𝓤 H A mem run) (ν ∷ [], tt) (asked l₇ δ) tt r)))) (id⊢ 𝓤 _) $ await ! tt $
             pick ! (λ r. split ! $ move ! (1 ∷ []) $
             use1 W (some (λ (zs : List Desk × (Unit {0} × (Unit {0} × Unit {0}))). ‵ (lasts inner.ended (ν ∷ [], tt) (asked l₇ δ)
-            zs) ⊛ raw (fact 𝓤 ((r ≡ submit-answer first m) × (zs .0 ≡ submit-desks first m rq))))) (id⊢ 𝓤 _) $
-            pick ! (λ zs. split ! $ move ! (1 ∷ []) $ heard ! ((r ≡ submit-answer first m) × (zs .0 ≡ submit-desks first m rq)) (λ e.
+            zs) ⊛ raw (fact 𝓤 (SubmitPromise first m rq r (zs .0))))) (id⊢ 𝓤 _) $
+            pick ! (λ zs. split ! $ move ! (1 ∷ []) $ heard ! (SubmitPromise first m rq r (zs .0)) (λ e.
             fsplit ! $ fsplit ! $ move ! (1 ∷ []) $ feqL ! (λ same. move ! (2 ∷ []) $ split ! $ move ! (1 ∷ []) $
             peeks ! S.the-row (Is S.the-row) (shows 𝓤 H A S.the-row) r (u ∷ []) (λ ir.
             let told = EL.tells S.the-type S′.the-laws r (u ∷ []) ir in

@@ -21,6 +21,7 @@ use Rattle.desk.proofs.Frames.{all-unset}
 use Rattle.desk.specs.declared.desk.Desk.{Desk}
 use Rattle.desk.specs.declared.answer.Turn.{Turn}
 use Rattle.desk.specs.Turn as t
+use Rattle.desk.specs.Promises.{TurnPromise}
 use Rattle.desk.proofs.desk.Desk as D
 use Rattle.desk.proofs.answer.Turn as S
 use Rattle.desk.proofs.answer.Turn.Laws as S′
@@ -211,10 +212,8 @@ module _ {M : Type 1} (𝓤 : URA M) (H : Heap 𝓤) (A : Atoms 𝓤) (mem : Mem
               .own r (u ∷ []))) ⊛ raw (ensured 𝓤 H A inner.ended (inner.clauses 𝓤 H A mem run) (κ₁, (κ₂, (ν ∷ [], tt))) (asked l₈ δ) tt
               r)))) (id⊢ 𝓤 _) $ await ! tt $ pick ! (λ r. split ! $ move ! (1 ∷ []) $
               use1 W (some (λ (zs : List ℕ × (List ℕ × (List Desk × (Unit {0} × Unit {0})))). ‵ (lasts inner.ended (κ₁, (κ₂, (ν ∷ [], tt)))
-              (asked l₈ δ) zs) ⊛ raw (fact 𝓤 ((r ≡ t.turn ps ls first m .answer) × (zs .0 ≡ t.turn ps ls first m .pool)
-              × (zs .1 .0 ≡ t.turn ps ls first m .list) × (zs .1 .1 .0 ≡ t.turn-desks ps ls first m))))) (id⊢ 𝓤 _) $
-              pick ! (λ zs. split ! $ move ! (1 ∷ []) $ heard ! ((r ≡ t.turn ps ls first m .answer) × (zs .0 ≡ t.turn ps ls first m .pool)
-              × (zs .1 .0 ≡ t.turn ps ls first m .list) × (zs .1 .1 .0 ≡ t.turn-desks ps ls first m)) (λ e.
+              (asked l₈ δ) zs) ⊛ raw (fact 𝓤 (TurnPromise ps ls first m r (zs .0) (zs .1 .0) (zs .1 .1 .0))))) (id⊢ 𝓤 _) $
+              pick ! (λ zs. split ! $ move ! (1 ∷ []) $ heard ! (TurnPromise ps ls first m r (zs .0) (zs .1 .0) (zs .1 .1 .0)) (λ e.
               fsplit ! $ fsplit ! $ move ! (1 ∷ []) $ feqL ! (λ len₁. move ! (1 ∷ []) $ fsplit ! $ fsplit ! $ move ! (1 ∷ []) $
               feqL ! (λ len₂. move ! (1 ∷ []) $ fsplit ! $ fsplit ! $ move ! (1 ∷ []) $ feqL ! (λ same.
               -- [the last desks; …; the last list; the last pool; the tokens and the result; what is kept; _k at 6 + 2 (17 - k); …]
