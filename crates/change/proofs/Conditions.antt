@@ -11,7 +11,8 @@ use lib.Dec.{eqb}
 use Rattle.words.specs.Tests.{if_then_else_}
 use Rattle.words.specs.Event.{Event, store, flush, fence, at, event-of, event-at}
 use Rattle.words.specs.Carry.{inside}
-use Rattle.words.proofs.Fails.{Fails, breaks, fails-and, fails-by, fails-equal, fails-less, fails-most, fails-within, keeps, not-fails, not-out, not-tells, out-in, tells-most}
+use Rattle.words.proofs.Fails.{Fails, breaks, keeps, fails-and, fails-by, fails-equal, fails-less, fails-most, fails-within, not-fails}
+use Rattle.words.proofs.Fails.{not-out, not-tells, out-in, tells-most}
 use Rattle.words.proofs.Tests.{Tells, is, isnt, tells-equal, tells-and}
 use Rattle.tree.specs.Header.{form-agrees, counts-agree, commit-of, total-in}
 use Rattle.change.specs.Recover.{log-pairs, may-store, all-may-store, log-agrees}
@@ -68,10 +69,10 @@ module _ (m : List ℕ) where
       (fails-and (fails-and (fails-within 1 (at m 5) (at m 4)) (fails-within 1 (at m 6) (at m 5))) (fails-within 1 (at m 7) 8))
 
 -- 6: the address of a pair, of each pair, and the log
-abbrev BadAddress : ℕ → ℕ → Type 0
+abbrev pub BadAddress : ℕ → ℕ → Type 0
 BadAddress total a = ((a < 5) ⊎ ((8 ≤ a) × (a ≤ 71))) ⊎ (total ≤ a)
 
-fails-address : (total a : ℕ) → Fails (BadAddress total a) (may-store total a)
+pub fails-address : (total a : ℕ) → Fails (BadAddress total a) (may-store total a)
 fails-address total a =
     fails-and (fails-and (fails-most 5 a) (not-fails (tells-and (tells-most 8 a) (tells-most a 71)))) (fails-less a total)
 

@@ -163,6 +163,7 @@ carry-numbers m l n = go (event-at l n) (fails-event m l n)
     go none (breaks c) = inl (c, refl)
     go (some e) f = at-slice (inside m e) f
       where
-        at-slice : (b : Bool) → Fails (w.NoEvent m l n) b → Says (w.carry-rows m l n) (carried-says (if b then Done else Refused NoEvent) .1)
+        at-slice : (b : Bool) → Fails (w.NoEvent m l n) b
+            → Says (w.carry-rows m l n) (carried-says (if b then Done else Refused NoEvent) .1)
         at-slice true (keeps h) = inr (h, refl)
         at-slice false (breaks c) = inl (c, refl)

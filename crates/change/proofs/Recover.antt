@@ -1,5 +1,5 @@
 -- Recovery: of a well-formed pool it plans nothing, and of a committed log it replays what was logged and clears the commit word.
-use Prim.Native.Nat.{ℕ, zero, suc, _+_, _-_, _*_, _≤_, _<_}
+use Prim.Native.Nat.{ℕ, zero, suc, _+_, _*_, _≤_, _<_}
 use mathlib.Core.Path.{_≡_, refl, _∙_, ap}
 use mathlib.Core.Logic.{_⊎_, inl, inr}
 use mathlib.Core.List.{List, [], _∷_, append-assoc}
@@ -8,13 +8,13 @@ use native.Mathlib.Omega.{arith}
 use lib.ListN.{length, set, length-set}
 use lib.Seq.{getD-set-same, getD-set-other}
 use lib.Dec.{leb}
-use borrow.Author.Tests.{le-ltb, lt-ltb, le-leb, leb-true, ne-eqb}
-use Rattle.words.specs.Tests.{within}
+use borrow.Author.Tests.{le-ltb, le-leb, leb-true, ne-eqb}
 use Rattle.words.specs.Pool.{used-at, log-at, nodes-at, commit-at, pairs-at, pairs-most, list-words}
 use Rattle.words.specs.Event.{fence, at, run}
 use Rattle.words.specs.Blocks.{Pair, once, stores, replay}
 use Rattle.words.specs.declared.refusal.Refusal.the-variants.{NoPool}
-use Rattle.words.proofs.Tests.{both, within-says, fails}
+use Rattle.words.proofs.Tests.{both}
+use Rattle.words.proofs.Fails.{Fails, breaks, keeps}
 use Rattle.words.proofs.Events.{run-off}
 use Rattle.words.proofs.Blocks.{Off, stores-stores}
 use Rattle.words.proofs.Logged.{redo}
@@ -24,6 +24,7 @@ use Rattle.change.specs.declared.Recovery.the-variants.{Clean, Recovered
 use Rattle.change.specs.Gate.{Planned, quiet}
 use Rattle.change.specs.Plan.{log-words, log-replayed, log-finished}
 use Rattle.change.specs.Recover.{log-pairs, may-store, all-may-store, log-agrees, refuse, recover-past-form, recover, recovery}
+use Rattle.change.proofs.Conditions.{BadAddress, fails-address}
 use Rattle.change.proofs.Pairs.{Within, within-at, within-off}
 use Rattle.change.proofs.Goes.{log-in}
 
@@ -56,11 +57,17 @@ abbrev pub AllStorable : ℕ → List Pair → Type 0
 AllStorable total ps = Within (Storable total) ps
 
 storable-may : (total w : ℕ) → Storable total w → may-store total w ≡ true
-storable-may total w (low, out, high) = rw (le-leb used-at w low, outside out, lt-ltb w total high)
+storable-may total w (low, out, high) = go (fails-address total w)
   where
-    outside : (w < log-at) ⊎ (nodes-at ≤ w) → within log-at w (nodes-at - 1) ≡ false
-    outside (inl h) = fails (within log-at w (nodes-at - 1)) (λ t. omega (arith, within-says log-at w (nodes-at - 1) t))
-    outside (inr h) = fails (within log-at w (nodes-at - 1)) (λ t. omega (arith, within-says log-at w (nodes-at - 1) t))
+    bad : (w < log-at) ⊎ (nodes-at ≤ w) → BadAddress total w → ⊥
+    bad o (inl (inl h)) = omega arith
+    bad (inl o) (inl (inr h)) = omega arith
+    bad (inr o) (inl (inr h)) = omega arith
+    bad o (inr h) = omega arith
+
+    go : {b : Bool} → Fails (BadAddress total w) b → b ≡ true
+    go (breaks p) = absurd (bad out p)
+    go (keeps n) = refl
 
 storable-all : (total : ℕ) (ps : List Pair) → AllStorable total ps → all-may-store total ps ≡ true
 unfolding all-may-store

@@ -20,7 +20,8 @@ submit-put-tight = record { free = λ κs a. tt; one = λ κs a r s x y. both-gi
 pub submit-fetch-tight : Tight 1 submit-fetch.ps submit-fetch.r submit-fetch-reads.Asked submit-fetch-reads.Learnt (λ κs x. now (x .0))
 submit-fetch-tight = record { free = λ κs a. tt; one = λ κs a r s x y. both-given }
 
-pub submit-delete-tight : Tight 1 submit-delete.ps submit-delete.r submit-delete-reads.Asked submit-delete-reads.Learnt (λ κs x. now (x .0))
+pub submit-delete-tight : Tight 1 submit-delete.ps submit-delete.r submit-delete-reads.Asked submit-delete-reads.Learnt
+    (λ κs x. now (x .0))
 submit-delete-tight = record { free = λ κs a. tt; one = λ κs a r s x y. both-given }
 
 -- pool, list and desks
