@@ -1,6 +1,7 @@
 //! Compiles the peers in C whose libraries are installed, and names those that are left out.
 
 use std::env;
+use std::ffi::OsString;
 use std::path::{Path, PathBuf};
 use std::process::Command;
 
@@ -73,7 +74,7 @@ fn built(source: &Source, out: &Path) -> bool {
     }
     let include = source.beside.map(|(folder, _)| format!("-I{folder}"));
     let compiled = files.iter().all(|(from, to)| {
-        ran(Command::new("cc")
+        ran(Command::new(compiler())
             .args(["-O3", "-fPIC", "-c"])
             .args(&include)
             .arg(from)
@@ -84,7 +85,7 @@ fn built(source: &Source, out: &Path) -> bool {
     let trial = out.join(format!("{}.so", source.name));
     let links = || {
         let library = format!("-l{}", source.library);
-        ran(Command::new("cc")
+        ran(Command::new(compiler())
             .arg("-shared")
             .args(&objects)
             .arg(library)
@@ -94,6 +95,13 @@ fn built(source: &Source, out: &Path) -> bool {
     };
     let archive = out.join(format!("libpeer_{}.a", source.name));
     compiled && links() && ran(Command::new("ar").arg("rcs").arg(archive).args(&objects))
+}
+
+/// The C compiler: built for another machine, the one that cargo is told to link with.
+fn compiler() -> OsString {
+    let elsewhere = env::var_os("HOST") != env::var_os("TARGET");
+    let linker = env::var_os("RUSTC_LINKER").filter(|_| elsewhere);
+    linker.unwrap_or_else(|| "cc".into())
 }
 
 fn ran(command: &mut Command) -> bool {

@@ -1,5 +1,6 @@
 //! The child process: it works on a pool file until it is killed.
 
+use crate::support::pace;
 use crate::support::random::Random;
 use ombykape::medium::{Medium, Real};
 use ombykape::{Error, Pool, PoolFile, CAPACITY_MOST};
@@ -124,7 +125,7 @@ pub fn run() {
     unsafe { prctl(PR_SET_PDEATHSIG, SIGKILL as c_ulong) };
     match told(WAY).as_str() {
         BY_POOL_FILE => work_by_pool_file(),
-        SLOWLY => work(u64::MAX, Duration::from_micros(10)),
+        SLOWLY => work(u64::MAX, pace() * Duration::from_micros(10)),
         stop => work(stop.parse().expect("a number of events"), Duration::ZERO),
     }
 }

@@ -15,8 +15,8 @@ use model::header::{WORD_CAPACITY, WORD_COMMIT, WORD_USED};
 use std::os::unix::process::ExitStatusExt;
 use std::process::Child;
 use std::time::{Duration, Instant};
-use support::each_seed;
 use support::random::Random;
+use support::{each_seed, pace};
 use watched::{Counts, Watched};
 
 /// SIGKILL, by which every child ends.
@@ -50,8 +50,9 @@ fn wait_for_work(watched: &Watched) {
     }
 }
 
-/// Kills a child at any moment of its work, round after round, on a file that is renewed when it is half full.
-fn kill_at_any_moment(name: &'static str, way: &str, count: u64) -> Counts {
+/// Kills a child at any moment of its first milliseconds of work, `pace` of them, round after round, on a file that is renewed
+/// when it is half full.
+fn kill_at_any_moment(name: &'static str, way: &str, pace: u32, count: u64) -> Counts {
     let mut counts = Counts::default();
     let mut kept = None;
     each_seed(name, count, |random| {
@@ -61,7 +62,7 @@ fn kill_at_any_moment(name: &'static str, way: &str, count: u64) -> Counts {
         if random.percent(95) {
             wait_for_work(&watched);
         }
-        std::thread::sleep(Duration::from_micros(random.below(1000)));
+        std::thread::sleep(pace * Duration::from_micros(random.below(1000)));
         child.kill().expect("a child to kill");
         assert_killed(child);
         let (noted, found) = (watched.noted(), watched.found());
@@ -85,13 +86,13 @@ fn kill_at_any_moment(name: &'static str, way: &str, count: u64) -> Counts {
 
 #[test]
 fn killed_at_any_moment() {
-    kill_at_any_moment("killed_at_any_moment", BY_POOL_FILE, 300);
+    kill_at_any_moment("killed_at_any_moment", BY_POOL_FILE, 1, 300);
 }
 
 /// With a pause behind each event, nearly every kill comes within a change.
 #[test]
 fn killed_while_slow() {
-    let counts = kill_at_any_moment("killed_while_slow", SLOWLY, 400);
+    let counts = kill_at_any_moment("killed_while_slow", SLOWLY, pace(), 400);
     assert!(
         counts.within_a_change > counts.kills / 3 && counts.committed > counts.kills / 20,
         "{counts:?}"

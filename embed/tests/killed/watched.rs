@@ -6,11 +6,12 @@ use crate::model::formed::{map_of, Map};
 use crate::model::header::WORD_COMMIT;
 use crate::model::{put, recover};
 use crate::support::changes::deciding;
+use crate::support::run_of;
 use ombykape::PoolFile;
 use std::fs;
 use std::ops::Range;
 use std::path::{Path, PathBuf};
-use std::process::{Child, Command, Stdio};
+use std::process::{Child, Stdio};
 
 /// A pool file, its diary, and the words that the model holds of it.
 pub struct Watched {
@@ -91,7 +92,7 @@ impl Watched {
 
     pub fn start(&self, seed: u64, way: &str) -> Child {
         fs::write(&self.diary, [0; 8]).expect("a diary");
-        let mut command = Command::new(std::env::current_exe().expect("this test"));
+        let mut command = run_of(std::env::current_exe().expect("this test").as_ref());
         command.args(["--exact", "child", "--nocapture"]).stdout(Stdio::null());
         command
             .env(POOL, &self.path)

@@ -1,9 +1,10 @@
 //! Runs of the command line, each on a file of its own.
 
+use super::run_of;
 use std::fs;
 use std::io::Write;
 use std::path::{Path, PathBuf};
-use std::process::{Command, Stdio};
+use std::process::Stdio;
 
 pub const DONE: i32 = 0;
 pub const FAILED: i32 = 1;
@@ -17,7 +18,7 @@ pub struct Ran {
 }
 
 pub fn run_with(arguments: &[&str], input: &[u8]) -> Ran {
-    let mut command = Command::new(env!("CARGO_BIN_EXE_ombykape"));
+    let mut command = run_of(env!("CARGO_BIN_EXE_ombykape").as_ref());
     command
         .args(arguments)
         .stdin(Stdio::piped())
