@@ -31,6 +31,7 @@ use Rattle.desk.specs.declared.answer.Turned.the-variants.{Served, Idle,
 use Rattle.desk.specs.Desk.{full, held, with-desk, fresh, may-submit, may-turn, choose}
 use Rattle.desk.specs.Turn.{Left, submit-answer, submit-desks, as-handed, serve-desk, serve-turn, turn}
 use Rattle.desk.specs.Answers.{submit-says, turned-says}
+use Rattle.desk.specs.Rows.{our-way}
 use Rattle.desk.specs.Refused as w
 use Rattle.desk.proofs.Choose.{full-range}
 use Rattle.desk.proofs.Served.{by}
@@ -149,7 +150,7 @@ module _ (m l : List ℕ) (ds : List Desk) (last : ℕ) where
       go false false Empty e = let z : _≡_ {A = ℕ} 0 1 = cc in absurd (omega arith)
       go false false (Holding q) e = let z : _≡_ {A = ℕ} 0 1 = cc in absurd (omega arith)
 
-  as-handed-is : (why : Refusal) → left .answer .turned ≡ Refused why → w.AsHanded m l ds last
+  as-handed-is : (why : Refusal) → left .answer .turned ≡ Refused why → w.AsHanded our-way m l ds last
   as-handed-is why r =
       let e = refused-is why r in
       record {
@@ -186,7 +187,7 @@ module _ (m l : List ℕ) (ds : List Desk) (last : ℕ) where
       go false (isnt n) (Holding q) f x e =
           record { q = q; long = n; desk-is = f; left-is = x; outcome-is = ap outcome-of e }
 
-  answered-is : (why : Refusal) → left .answer .turned ≡ Served (o.Refused why) → w.Answered m l ds last why
+  answered-is : (why : Refusal) → left .answer .turned ≡ Served (o.Refused why) → w.Answered our-way m l ds last why
   unfolding after-all
   answered-is why r =
       let x = serves why r in
@@ -211,7 +212,7 @@ module _ (m l : List ℕ) (ds : List Desk) (last : ℕ) where
         last-is = ap (λ (t : Left). t .answer .last) e;
       }
 
-pub refuses : w.Refuses
+pub refuses : w.Refuses our-way
 refuses = record {
   submit = submit-numbers;
   turn-itself = itself-numbers;

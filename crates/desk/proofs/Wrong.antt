@@ -1,6 +1,6 @@
 -- What demand 3 shuts out: turns that look right and are not, each refuted on a row of calls.
 use Prim.Native.Nat.{ℕ, suc, _≤_}
-use mathlib.Core.Path.{_≡_, refl}
+use mathlib.Core.Path.{_≡_, refl, sym}
 use mathlib.Core.List.{List, [], _∷_, _++_}
 use mathlib.Core.Bool.{Bool, true, false}
 use native.Mathlib.Omega.{arith}
@@ -10,8 +10,11 @@ use borrow.Author.Tests.{eq-eqb}
 use Rattle.words.specs.Tests.{if_then_else_}
 use Rattle.words.specs.Pool.{list-words}
 use Rattle.words.specs.Cuts.{first}
+use Rattle.words.specs.declared.refusal.Refusal.the-variants.{NoPool}
 use Rattle.words.proofs.Parted.{cut-live}
+use Rattle.tree.specs.Header.{form-agrees}
 use Rattle.change.specs.declared.Request.{Request}
+use Rattle.change.specs.declared.Request.the-variants.{Fetch}
 use Rattle.change.specs.Rule.{Map}
 use Rattle.desk.specs.declared.desk.Desk.{Desk}
 use Rattle.desk.specs.declared.desk.Desk.the-variants.{Empty, Holding}
@@ -21,6 +24,7 @@ use Rattle.desk.specs.Desk.{fresh, held, with-desk, first-full, choose}
 use Rattle.desk.specs.Turn.{Left, as-handed, serve-turn, submit-answer, submit-desks}
 use Rattle.desk.specs.Turn as d
 use Rattle.desk.specs.Rows.{Way, House, submit, turn, Seen, seen, events-of, after, turns, accepted, times}
+use Rattle.desk.specs.Refused.{Refuses}
 use Rattle.desk.specs.Demand3.{Pools, InTime, Ruled, idle, by-rule, no-room, Demand3}
 
 -- a turn looks from desk 1 each time
@@ -64,6 +68,14 @@ spending m l ds last =
 
 abbrev overspends : Way
 overspends = record { turn = spending; desks = d.turn-desks }
+
+-- a turn empties the desk only where it carried out events, and so keeps a request that is refused
+abbrev keeps-refused : Way
+keeps-refused =
+    record {
+      turn = d.turn;
+      desks = λ m l ds last. if eqb (d.turn m l ds last .answer .events) 0 then ds else d.turn-desks m l ds last;
+    }
 
 -- a member that no turn serves is not served in time
 unserved : (M j : ℕ) (q : Request) (ts : List Seen) → times j ts ≡ 0 → InTime M j q ts → ⊥
@@ -138,3 +150,13 @@ module _ (P : Pools) (m : List ℕ) (p q : Request) (fits-p : P .Fits p) (fits-q
   unfolding turns after accepted serve-turn first-full
   serves-twice x =
       let twice : _≡_ {A = ℕ} 3 1 = x .each-once (turn words ∷ turn words ∷ []) 1 (room, (room, tt)) (omega arith) in omega arith
+
+-- a fetch on no pool at all is refused 2, and its desk is to be emptied
+pub refused-stays : Refuses keeps-refused → ⊥
+unfolding serve-turn first-full form-agrees
+refused-stays x =
+    let a = x .request-refused [] words (Holding (Fetch 7) ∷ []) 0 NoPool refl in
+    let one : a .member ≡ 1 = sym (a .member-is) in
+    let kept : Holding (Fetch 7) ∷ [] ≡ Empty ∷ [] = rw one at (a .desks-are) in
+    let z : _≡_ {A = ℕ} 0 1 = cc in
+    omega arith

@@ -17,8 +17,9 @@ use Rattle.desk.specs.declared.answer.Submitted.the-variants as s
 use Rattle.desk.specs.declared.answer.Turned.{Turned}
 use Rattle.desk.specs.declared.answer.Turned.the-variants.{Served, Idle, Refused}
 use Rattle.desk.specs.Desk.{held, choose}
-use Rattle.desk.specs.Turn.{submit-answer, submit-desks, turn, turn-desks}
+use Rattle.desk.specs.Turn.{submit-answer, submit-desks}
 use Rattle.desk.specs.Answers.{submit-says, turned-says}
+use Rattle.desk.specs.Rows.{Way}
 
 -- 9: "desk list empty or over 16; .. member 0 or past it"
 abbrev pub NoMember : List Desk → ℕ → Type 0
@@ -53,45 +54,47 @@ itself-says (Served outcome) = 0
 itself-says Idle = 0
 itself-says (Refused why) = number why
 
--- a turn leaves everything lent as it was: "member 0, 0 events, last served as handed"
-pub record AsHanded (m l : List ℕ) (ds : List Desk) (last : ℕ) : Type 0 where
-  pub pool-is : turn m l ds last .pool ≡ m
-  pub list-is : turn m l ds last .list ≡ l
-  pub desks-are : turn-desks m l ds last ≡ ds
-  pub member-is : turn m l ds last .answer .member ≡ 0
-  pub events-are : turn m l ds last .answer .events ≡ 0
-  pub last-is : turn m l ds last .answer .last ≡ last
+-- of a way of taking turns
+module _ (X : Way) where
+  -- a turn leaves everything lent as it was: "member 0, 0 events, last served as handed"
+  pub record AsHanded (m l : List ℕ) (ds : List Desk) (last : ℕ) : Type 0 where
+    pub pool-is : X .turn m l ds last .pool ≡ m
+    pub list-is : X .turn m l ds last .list ≡ l
+    pub desks-are : X .desks m l ds last ≡ ds
+    pub member-is : X .turn m l ds last .answer .member ≡ 0
+    pub events-are : X .turn m l ds last .answer .events ≡ 0
+    pub last-is : X .turn m l ds last .answer .last ≡ last
 
--- a turn answers a refused request: by 2 to 5, with 0 events; pool and list stay as they were, the desk of its member is emptied and no
--- other, and that member is the new last served, "even if refused"
-pub record Answered (m l : List ℕ) (ds : List Desk) (last : ℕ) (why : Refusal) : Type 0 where
-  pub request : Request
-  pub member : ℕ
-  pub member-is : turn m l ds last .answer .member ≡ member
-  pub one-of : (1 ≤ member) × (member ≤ length ds)
-  pub held-it : Holds ds member request
-  pub says : Says (request-rows m request) (number why)
-  pub numbers : (2 ≤ number why) × (number why ≤ 5)
-  pub events-are : turn m l ds last .answer .events ≡ 0
-  pub pool-is : turn m l ds last .pool ≡ m
-  pub list-is : turn m l ds last .list ≡ l
-  pub desks-are : turn-desks m l ds last ≡ set ds (member - 1) Empty
-  pub last-is : turn m l ds last .answer .last ≡ member
+  -- a turn answers a refused request: by 2 to 5, with 0 events; pool and list stay as they were, the desk of its member is emptied and no
+  -- other, and that member is the new last served, "even if refused"
+  pub record Answered (m l : List ℕ) (ds : List Desk) (last : ℕ) (why : Refusal) : Type 0 where
+    pub request : Request
+    pub member : ℕ
+    pub member-is : X .turn m l ds last .answer .member ≡ member
+    pub one-of : (1 ≤ member) × (member ≤ length ds)
+    pub held-it : Holds ds member request
+    pub says : Says (request-rows m request) (number why)
+    pub numbers : (2 ≤ number why) × (number why ≤ 5)
+    pub events-are : X .turn m l ds last .answer .events ≡ 0
+    pub pool-is : X .turn m l ds last .pool ≡ m
+    pub list-is : X .turn m l ds last .list ≡ l
+    pub desks-are : X .desks m l ds last ≡ set ds (member - 1) Empty
+    pub last-is : X .turn m l ds last .answer .last ≡ member
 
-pub record Refuses : Type 0 where
-  -- the numbers of submit and turn, by the first row whose condition holds
-  pub submit : (ds : List Desk) (member : ℕ) → Says ((NoMember ds member, 9) ∷ (FullDesk ds member, 10) ∷ [])
-      (submit-says (submit-answer ds member) .1)
-  pub turn-itself : (m l : List ℕ) (ds : List Desk) (last : ℕ) → Says ((NoTurn ds last, 9) ∷ (ShortList l, 1) ∷ [])
-      (itself-says (turn m l ds last .answer .turned))
-  pub turn-whole : (m l : List ℕ) (ds : List Desk) (last : ℕ)
-      → Says ((NoTurn ds last, 9) ∷ (ShortList l, 1) ∷ desk-rows m (held ds (choose ds last)))
-      (turned-says (turn m l ds last .answer .turned) .1)
-  -- "Each leaves everything lent unchanged and counts 0 events."
-  pub submit-refused : (ds : List Desk) (member : ℕ) (q : Request) (why : Refusal) → submit-answer ds member ≡ s.Refused why
-      → submit-desks ds member q ≡ ds
-  pub turn-refused : (m l : List ℕ) (ds : List Desk) (last : ℕ) (why : Refusal) → turn m l ds last .answer .turned ≡ Refused why
-      → AsHanded m l ds last
-  -- "Inside a turn 2 to 5 become the member's answer and the desk is emptied."
-  pub request-refused : (m l : List ℕ) (ds : List Desk) (last : ℕ) (why : Refusal)
-      → turn m l ds last .answer .turned ≡ Served (o.Refused why) → Answered m l ds last why
+  pub record Refuses : Type 0 where
+    -- the numbers of submit and turn, by the first row whose condition holds
+    pub submit : (ds : List Desk) (member : ℕ) → Says ((NoMember ds member, 9) ∷ (FullDesk ds member, 10) ∷ [])
+        (submit-says (submit-answer ds member) .1)
+    pub turn-itself : (m l : List ℕ) (ds : List Desk) (last : ℕ) → Says ((NoTurn ds last, 9) ∷ (ShortList l, 1) ∷ [])
+        (itself-says (X .turn m l ds last .answer .turned))
+    pub turn-whole : (m l : List ℕ) (ds : List Desk) (last : ℕ)
+        → Says ((NoTurn ds last, 9) ∷ (ShortList l, 1) ∷ desk-rows m (held ds (choose ds last)))
+        (turned-says (X .turn m l ds last .answer .turned) .1)
+    -- "Each leaves everything lent unchanged and counts 0 events."
+    pub submit-refused : (ds : List Desk) (member : ℕ) (q : Request) (why : Refusal) → submit-answer ds member ≡ s.Refused why
+        → submit-desks ds member q ≡ ds
+    pub turn-refused : (m l : List ℕ) (ds : List Desk) (last : ℕ) (why : Refusal) → X .turn m l ds last .answer .turned ≡ Refused why
+        → AsHanded m l ds last
+    -- "Inside a turn 2 to 5 become the member's answer and the desk is emptied."
+    pub request-refused : (m l : List ℕ) (ds : List Desk) (last : ℕ) (why : Refusal)
+        → X .turn m l ds last .answer .turned ≡ Served (o.Refused why) → Answered m l ds last why
