@@ -2,7 +2,7 @@
 use crate::answer::Submitted;
 use crate::answer::Turn;
 use crate::choosing::Chosen;
-use crate::desk::Desk;
+use crate::desks::Desk;
 use crate::serving::serve_chosen;
 use crate::submitting::fill;
 use change::Request;

@@ -2,7 +2,7 @@
 mod answer;
 mod asking;
 mod choosing;
-mod desk;
+mod desks;
 mod serving;
 mod submitting;
 mod turning;
@@ -16,7 +16,7 @@ pub use choosing::Chosen;
 pub use choosing::looked_at;
 pub use choosing::looked_member;
 pub use choosing::note;
-pub use desk::Desk;
+pub use desks::Desk;
 pub use serving::carry_all;
 pub use serving::serve_chosen;
 pub use submitting::seat;

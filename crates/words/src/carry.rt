@@ -2,7 +2,7 @@
 use crate::kind::FENCE;
 use crate::kind::FLUSH;
 use crate::kind::STORE;
-use crate::pool::Pool;
+use crate::limits::Pool;
 use crate::refusal::Refusal;
 ghost use Rattle.words.specs.Carry.{CarryPromise};
 

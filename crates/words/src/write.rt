@@ -2,7 +2,7 @@
 use crate::kind::FENCE;
 use crate::kind::FLUSH;
 use crate::kind::STORE;
-use crate::pool::Pool;
+use crate::limits::Pool;
 ghost use Prim.Native.Nat.{_+_, _*_, _≤_, _<_};
 ghost use mathlib.Core.Path.{_≡_};
 ghost use mathlib.Core.List.{[], _∷_};

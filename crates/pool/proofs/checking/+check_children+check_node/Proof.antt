@@ -16,7 +16,7 @@ use Rattle.node.proofs.layout.record_value.Reads as record-value
 use Rattle.node.proofs.look.fits.Reads as fits
 use Rattle.node.proofs.slot.count.Reads as count
 use Rattle.node.proofs.slot.name.Reads as name
-use Rattle.words.proofs.pool.Pool.node_at.Reads as node-at
+use Rattle.words.proofs.limits.Pool.node_at.Reads as node-at
 use Rattle.pool.specs.Checking.{kid-of, kids-left}
 use Rattle.pool.proofs.Walks as w
 use Rattle.pool.proofs.Children as ch
