@@ -25,8 +25,6 @@ use Rattle.desk.proofs.asking.ask.Kinds as ask
 use Rattle.desk.proofs.asking.ask.Reads as ask-reads
 use Rattle.desk.proofs.serving.serve_chosen.Kinds as serve-chosen
 use Rattle.desk.proofs.serving.serve_chosen.Reads as serve-chosen-reads
-use Rattle.desk.proofs.serving.carry_all.Kinds as carry-all
-use Rattle.desk.proofs.serving.carry_all.Reads as carry-all-reads
 use Rattle.desk.proofs.submitting.seat.Kinds as seat
 use Rattle.desk.proofs.submitting.seat.Reads as seat-reads
 use Rattle.desk.proofs.choosing.looked_at.Kinds as looked-at
@@ -87,9 +85,6 @@ serve-chosen-tight = record {
   free = λ κs a. tt;
   one = λ κs a r s x y h k. (h .0 ∙ sym (k .0), both-same (h .1 ∙ sym (k .1)) (h .2 ∙ sym (k .2)));
 }
-
-pub carry-all-tight : Tight 2 carry-all.ps carry-all.r carry-all-reads.Asked carry-all-reads.Learnt (λ κs x. now (x .0))
-carry-all-tight = record { free = λ κs a. tt; one = λ κs a r s x y h k. (refl, h ∙ sym k) }
 
 -- and the functions under submit and turn that the crate above calls: nothing is lent to them
 pub seat-tight : Tight 0 seat.ps seat.r {B = Unit {0}} seat-reads.Asked seat-reads.Learnt (λ κs x. tt)

@@ -3,7 +3,6 @@
 use Prim.Native.Nat.{ℕ}
 use mathlib.Core.Path.{_≡_}
 use mathlib.Core.List.{List, [], _∷_}
-use Rattle.words.specs.Carry.{after-all}
 use Rattle.change.specs.declared.Request.{Request}
 use Rattle.desk.specs.declared.desks.Desk.{Desk}
 use Rattle.desk.specs.declared.answer.Submitted.{Submitted}
@@ -26,7 +25,3 @@ AskPromise m l desk last q r m′ l′ =
     (submit-says (r .submitted) ≡ submit-says (t.submit-answer (desk ∷ []) 1))
     × (turn-says (r .turn) ≡ turn-says (t.ask m l desk last q .answer)) × (m′ ≡ t.ask m l desk last q .pool)
     × (l′ ≡ t.ask m l desk last q .list) × (r .desk ∷ [] ≡ t.ask-desks m l desk last q)
-
--- the list is lent only to read
-abbrev pub CarryAllPromise : List ℕ → List ℕ → ℕ → List ℕ → Type 0
-CarryAllPromise m l events m′ = m′ ≡ after-all m l 1 events

@@ -17,7 +17,6 @@ pub use choosing::looked_at;
 pub use choosing::looked_member;
 pub use choosing::note;
 pub use desks::Desk;
-pub use serving::carry_all;
 pub use serving::serve_chosen;
 pub use submitting::seat;
 pub use submitting::submit;

@@ -8,18 +8,6 @@ use words::Pool;
 use words::Refusal;
 ghost use mathlib.Core.Path.{_≡_};
 ghost use Rattle.desk.specs.Turn.{serve-turn, unserved};
-ghost use Rattle.desk.specs.Promises.{CarryAllPromise};
-
-// All events of the list up to a number, one after the other.
-pub fn carry_all(pool: &mut [u64], list: &[u64], events: u64)
-    ensures { λ _. ⌜ CarryAllPromise (now (pool .entry)) (now (list .entry)) events (now (pool .exit)) ⌝ }
-{
-    let mut n = 0;
-    while n < events {
-        n += 1;
-        words::carry_out(pool, list, n);
-    }
-}
 
 // An answer with no member served.
 fn nobody(turned: Turned, last: u64) -> Turn
@@ -59,7 +47,7 @@ pub fn serve_chosen(
             let answer = pool::serve(pool, list, request);
             let outcome = answer.outcome;
             let events = answer.events;
-            carry_all(pool, list, events);
+            words::carry_all(pool, list, events);
             Turn {
                 turned: Turned::Served(outcome),
                 member: member,

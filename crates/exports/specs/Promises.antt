@@ -1,6 +1,6 @@
 -- "Every public call promises its answer and each word of pool, list, marks .. for all inputs, refusals too": the exported calls. Pool and
 -- list are m and l before the call, and m′ and l′ after it, where it may change them; r is the reply, in words. (Carrying out all events:
--- `CarryAllPromise` of desk.)
+-- `CarryAllPromise` of words.)
 use Prim.Native.Nat.{ℕ}
 use mathlib.Core.Path.{_≡_}
 use mathlib.Core.List.{List}

@@ -7,7 +7,7 @@ use crate::replies::recovery_reply;
 use crate::replies::verdict;
 use crate::reply::Reply;
 use crate::reply::Verdict;
-ghost use Rattle.desk.specs.Promises.{CarryAllPromise};
+ghost use Rattle.words.specs.Carry.{CarryAllPromise};
 ghost use Rattle.exports.specs.Promises as p;
 
 #[no_mangle]
@@ -64,5 +64,5 @@ pub extern "C" fn ombykape_carry_out(pool: &mut [u64], list: &[u64], n: u64) -> 
 pub extern "C" fn ombykape_carry_all(pool: &mut [u64], list: &[u64], events: u64)
     ensures { λ _. ⌜ CarryAllPromise (now (pool .entry)) (now (list .entry)) events (now (pool .exit)) ⌝ }
 {
-    desk::carry_all(pool, list, events);
+    words::carry_all(pool, list, events);
 }

@@ -16,7 +16,7 @@ const LIST_WORDS: usize = 372;
 
 fn make_pool(pool: &mut [u64], list: &mut [u64]) {
     if let Formatted::Planned(events) = pool::format(pool, list, CAPACITY) {
-        desk::carry_all(pool, list, events);
+        words::carry_all(pool, list, events);
     }
 }
 

@@ -5,12 +5,12 @@ use change::Request;
 
 pub fn make(pool: &mut [u64], list: &mut [u64], capacity: u64) {
     if let Formatted::Planned(events) = pool::format(pool, list, capacity) {
-        desk::carry_all(pool, list, events);
+        words::carry_all(pool, list, events);
     }
 }
 
 pub fn serve(pool: &mut [u64], list: &mut [u64], request: Request) -> Answer {
     let answer = pool::serve(pool, list, request);
-    desk::carry_all(pool, list, answer.events);
+    words::carry_all(pool, list, answer.events);
     answer
 }

@@ -44,3 +44,7 @@ after-all m l n (suc c) = after-all (after m (event-at l n)) l (suc n) c
 unfoldable pub AllDone : List ℕ → List ℕ → ℕ → ℕ → Type 0
 AllDone m l n zero = Unit {0}
 AllDone m l n (suc c) = (carried m (event-at l n) ≡ Done) × AllDone (after m (event-at l n)) l (suc n) c
+
+-- carrying out so many events, from the first on
+abbrev pub CarryAllPromise : List ℕ → List ℕ → ℕ → List ℕ → Type 0
+CarryAllPromise m l events m′ = m′ ≡ after-all m l 1 events

@@ -1,10 +1,10 @@
-// Carrying out one event of a list.
+// Carrying out one event of a list, and all of them.
 use crate::kind::FENCE;
 use crate::kind::FLUSH;
 use crate::kind::STORE;
 use crate::limits::Pool;
 use crate::refusal::Refusal;
-ghost use Rattle.words.specs.Carry.{CarryPromise};
+ghost use Rattle.words.specs.Carry.{CarryPromise, CarryAllPromise};
 
 pub enum Carried {
     Done,
@@ -42,5 +42,16 @@ pub fn carry_out(pool: &mut [u64], list: &[u64], n: u64) -> Carried
         }
         FENCE => Carried::Done,
         _ => Carried::Refused(Refusal::NoEvent),
+    }
+}
+
+// All events of the list up to a number, one after the other.
+pub fn carry_all(pool: &mut [u64], list: &[u64], events: u64)
+    ensures { λ _. ⌜ CarryAllPromise (now (pool .entry)) (now (list .entry)) events (now (pool .exit)) ⌝ }
+{
+    let mut n = 0;
+    while n < events {
+        n += 1;
+        carry_out(pool, list, n);
     }
 }

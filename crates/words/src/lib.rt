@@ -6,6 +6,7 @@ pub mod refusal;
 mod write;
 
 pub use carry::Carried;
+pub use carry::carry_all;
 pub use carry::carry_out;
 pub use limits::Pool;
 pub use refusal::Refusal;

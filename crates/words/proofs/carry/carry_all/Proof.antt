@@ -1,4 +1,4 @@
--- `desk::serving::carry_all` meets its contract: what is left of the events, carried out on the pool so far, leaves what all of them
+-- `words::carry::carry_all` meets its contract: what is left of the events, carried out on the pool so far, leaves what all of them
 -- leave.
 use Prim.Native.Nat.{ℕ, _+_, _-_, _≤_, _<_}
 use mathlib.Core.Path.{_≡_, refl}
@@ -7,11 +7,11 @@ use native.Mathlib.Omega.{arith}
 use native.Mathlib.Numerals.{add-one}
 use lib.ListN.{length}
 use borrow.Author.Needs.{needs}
 use Rattle.words.specs.Event.{event-at}
 use Rattle.words.specs.Carry.{after, after-all}
 use Rattle.words.proofs.Turns.{turn, over}
-use Rattle.desk.proofs.serving.carry_all.Statement.{statement}
-use Rattle.desk.proofs.serving.carry_all.Tie as tie
+use Rattle.words.proofs.carry.carry_all.Statement.{statement}
+use Rattle.words.proofs.carry.carry_all.Tie as tie
 
 abbrev Inv-loop : tie.InvT-loop
 Inv-loop pool₀ list events n₀ pool n =
