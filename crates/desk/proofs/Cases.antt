@@ -5,7 +5,7 @@ use mathlib.Core.List.{List, [], _∷_}
 use lib.ListN.{replicate}
 use Rattle.words.specs.Kinds as k
 use Rattle.change.specs.declared.Request.{Request}
-use Rattle.desk.specs.declared.desks.Desk.the-variants.{Empty, Holding}
+use Rattle.desk.specs.declared.record.Desk.the-variants.{Empty, Holding}
 use Rattle.desk.specs.Desk.{first-full, choose}
 use Rattle.desk.specs.Turn.{submit-answer, serve-turn, turn}
 use Rattle.desk.specs.Answers.{submit-says, turn-says}

@@ -10,7 +10,7 @@ use lib.ListN.{length, List·getD-eq-default}
 use borrow.Author.Tests.{lt-ltb, le-ltb}
 use Rattle.words.specs.Lists.{count-from}
 use Rattle.words.specs.Tests.{if_then_else_}
-use Rattle.desk.specs.declared.desks.Desk.{Desk}
+use Rattle.desk.specs.declared.record.Desk.{Desk}
 use Rattle.desk.specs.Desk.{fresh, full, held, first-full, choose}
 use Rattle.desk.proofs.Bounds.{not-both}
 

@@ -15,8 +15,8 @@ use Rattle.words.proofs.Loss.{settled-safe}
 use Rattle.change.specs.declared.Request.{Request}
 use Rattle.change.specs.declared.Answer.{Answer}
 use Rattle.change.specs.Calls.{serve-answer}
-use Rattle.desk.specs.declared.desks.Desk.{Desk}
-use Rattle.desk.specs.declared.desks.Desk.the-variants.{Empty, Holding}
+use Rattle.desk.specs.declared.record.Desk.{Desk}
+use Rattle.desk.specs.declared.record.Desk.the-variants.{Empty, Holding}
 use Rattle.desk.specs.declared.answer.Submitted.the-variants.{Accepted}
 use Rattle.desk.specs.declared.answer.Turned.the-variants.{Served, Idle}
 use Rattle.desk.specs.Desk.{fresh, full, held, accepts}

@@ -12,8 +12,8 @@ use Rattle.words.specs.Tests.{if_then_else_}
 use Rattle.words.proofs.Tests.{both}
 use Rattle.words.specs.declared.refusal.Refusal.the-variants.{NoDesk, FullDesk}
 use Rattle.change.specs.declared.Request.{Request}
-use Rattle.desk.specs.declared.desks.Desk.{Desk}
-use Rattle.desk.specs.declared.desks.Desk.the-variants.{Holding}
+use Rattle.desk.specs.declared.record.Desk.{Desk}
+use Rattle.desk.specs.declared.record.Desk.the-variants.{Holding}
 use Rattle.desk.specs.declared.answer.Submitted.{Submitted}
 use Rattle.desk.specs.declared.answer.Submitted.the-variants.{Accepted, Refused}
 use Rattle.desk.specs.Desk.{fresh, full, held, with-desk, may-submit, accepts}

@@ -10,7 +10,7 @@ use Rattle.words.specs.Pool.{list-words}
 use Rattle.change.specs.declared.Request.{Request}
 use Rattle.change.specs.declared.Outcome.{Outcome}
 use Rattle.change.specs.Calls.{serve-answer}
-use Rattle.desk.specs.declared.desks.Desk.the-variants.{Holding}
+use Rattle.desk.specs.declared.record.Desk.the-variants.{Holding}
 use Rattle.desk.specs.declared.answer.Turned.the-variants.{Served}
 use Rattle.desk.specs.Desk.{fresh, full, held, with-desk}
 use Rattle.desk.specs.Turn.{Left, serve-desk, submit-desks}

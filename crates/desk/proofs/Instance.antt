@@ -11,7 +11,7 @@ use Rattle.change.specs.declared.Request.the-variants.{Put, Fetch}
 use Rattle.change.specs.Calls.{key-of}
 use Rattle.change.specs.Sums.{seven}
 use Rattle.pool.proofs.Instance.{seven-well-formed}
-use Rattle.desk.specs.declared.desks.Desk.the-variants.{Empty, Holding}
+use Rattle.desk.specs.declared.record.Desk.the-variants.{Empty, Holding}
 use Rattle.desk.specs.Desk.{held}
 use Rattle.desk.specs.Rows.{our-way, House}
 use Rattle.desk.specs.Demand3.{Ready, Demand3}

@@ -11,7 +11,7 @@ use lib.ListN.{length, getD, drop}
 use lib.Seq.{drop-cons}
 use Rattle.words.specs.Event.{at}
 use Rattle.words.specs.Tests.{if_then_else_}
-use Rattle.desk.specs.declared.desks.Desk.{Desk}
+use Rattle.desk.specs.declared.record.Desk.{Desk}
 use Rattle.desk.specs.declared.choosing.Chosen.{Chosen}
 use Rattle.desk.specs.Desk.{fresh, full, held, may-turn, round, first-full}
 use Rattle.desk.specs.Parts.{noted, seated, chosen}

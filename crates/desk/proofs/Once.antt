@@ -8,8 +8,8 @@ use native.Mathlib.Decide.{ℕ-discrete}
 use lib.Dec.{eqb}
 use borrow.Author.Tests.{eq-eqb, ne-eqb}
 use Rattle.words.specs.Tests.{if_then_else_}
-use Rattle.desk.specs.declared.desks.Desk.{Desk}
-use Rattle.desk.specs.declared.desks.Desk.the-variants.{Empty, Holding}
+use Rattle.desk.specs.declared.record.Desk.{Desk}
+use Rattle.desk.specs.declared.record.Desk.the-variants.{Empty, Holding}
 use Rattle.desk.specs.Desk.{fresh, full, held, with-desk, accepts}
 use Rattle.desk.specs.Turn.{Left, submit-desks}
 use Rattle.desk.specs.Rows.{our-way, House, Call, submit, turn, step, after, turns, accepted, times, waiting}

@@ -8,7 +8,7 @@ use native.Mathlib.Decide.{ℕ-discrete}
 use lib.ListN.{length}
 use Rattle.words.specs.Pool.{list-words}
 use Rattle.change.specs.declared.Request.{Request}
-use Rattle.desk.specs.declared.desks.Desk.the-variants.{Holding}
+use Rattle.desk.specs.declared.record.Desk.the-variants.{Holding}
 use Rattle.desk.specs.Desk.{fresh, held, with-desk, accepts}
 use Rattle.desk.specs.Turn.{Left, submit-desks}
 use Rattle.desk.specs.Rows.{our-way, House, Call, submit, turn, step, after}

@@ -22,8 +22,8 @@ use Rattle.change.specs.Answers.{outcome-says}
 use Rattle.change.specs.Calls.{serve-answer, serve-list}
 use Rattle.change.specs.Conditions.{Says, ShortList}
 use Rattle.pool.proofs.Demand1.{demand-1, some-number}
-use Rattle.desk.specs.declared.desks.Desk.{Desk}
-use Rattle.desk.specs.declared.desks.Desk.the-variants.{Empty, Holding}
+use Rattle.desk.specs.declared.record.Desk.{Desk}
+use Rattle.desk.specs.declared.record.Desk.the-variants.{Empty, Holding}
 use Rattle.desk.specs.declared.answer.Submitted.{Submitted}
 use Rattle.desk.specs.declared.answer.Submitted.the-variants as s
 use Rattle.desk.specs.declared.answer.Turned.{Turned}

@@ -9,8 +9,8 @@ use lib.Dec.{ltb}
 use Rattle.words.specs.Tests.{if_then_else_}
 use Rattle.words.specs.Pool.{list-words}
 use Rattle.words.specs.declared.refusal.Refusal.the-variants.{ShortList, NoDesk}
-use Rattle.desk.specs.declared.desks.Desk.{Desk}
-use Rattle.desk.specs.declared.desks.Desk.the-variants.{Empty, Holding}
+use Rattle.desk.specs.declared.record.Desk.{Desk}
+use Rattle.desk.specs.declared.record.Desk.the-variants.{Empty, Holding}
 use Rattle.desk.specs.declared.answer.Turned.the-variants.{Refused}
 use Rattle.desk.specs.Desk.{may-turn}
 use Rattle.desk.specs.Turn.{Left, as-handed, serve-desk, serve-turn}

@@ -8,8 +8,8 @@ use lib.ListN.{length, getD, set}
 use Rattle.words.specs.Tests.{if_then_else_}
 use Rattle.words.specs.declared.refusal.Refusal.the-variants.{NoDesk, FullDesk}
 use Rattle.change.specs.declared.Request.{Request}
-use Rattle.desk.specs.declared.desks.Desk.{Desk}
-use Rattle.desk.specs.declared.desks.Desk.the-variants.{Empty, Holding}
+use Rattle.desk.specs.declared.record.Desk.{Desk}
+use Rattle.desk.specs.declared.record.Desk.the-variants.{Empty, Holding}
 use Rattle.desk.specs.declared.answer.Submitted.the-variants.{Accepted, Refused}
 use Rattle.desk.specs.declared.submitting.Filled.{Filled}
 use Rattle.desk.specs.Desk.{fresh, full, may-submit}

@@ -11,7 +11,7 @@ use denote.Ref.{now}
 use Rattle.words.proofs.Answers.{one-outcome, both-same}
 use Rattle.words.proofs.Tight.{Tight}
 use Rattle.change.specs.declared.Request.{Request}
-use Rattle.desk.specs.declared.desks.Desk.{Desk}
+use Rattle.desk.specs.declared.record.Desk.{Desk}
 use Rattle.desk.specs.declared.answer.Submitted.{Submitted}
 use Rattle.desk.specs.declared.answer.Turn.{Turn}
 use Rattle.desk.specs.declared.asking.Asked.{Asked}

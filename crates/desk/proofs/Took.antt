@@ -7,8 +7,8 @@ use lib.ListN.{length}
 use borrow.Author.Tests.{le-ltb}
 use Rattle.words.specs.Pool.{list-words}
 use Rattle.change.specs.declared.Request.{Request}
-use Rattle.desk.specs.declared.desks.Desk.{Desk}
-use Rattle.desk.specs.declared.desks.Desk.the-variants.{Empty, Holding}
+use Rattle.desk.specs.declared.record.Desk.{Desk}
+use Rattle.desk.specs.declared.record.Desk.the-variants.{Empty, Holding}
 use Rattle.desk.specs.declared.answer.Turned.the-variants.{Idle}
 use Rattle.desk.specs.Desk.{fresh, full, held, with-desk, may-turn, choose}
 use Rattle.desk.specs.Turn.{Left, as-handed, serve-desk, serve-turn, turn}

@@ -6,7 +6,7 @@ use mathlib.Core.List.{List}
 use mathlib.Core.Bool.{Bool, true, false}
 use lib.ListN.{length}
 use Rattle.words.specs.Tests.{if_then_else_}
-use Rattle.desk.specs.declared.desks.Desk.{Desk}
+use Rattle.desk.specs.declared.record.Desk.{Desk}
 use Rattle.desk.specs.declared.choosing.Chosen.{Chosen}
 use Rattle.desk.specs.declared.answer.Turn.{Turn}
 use Rattle.desk.specs.Desk.{fresh, held, with-desk, may-submit, may-turn, choose}

@@ -16,8 +16,8 @@ use Rattle.tree.specs.Header.{form-agrees}
 use Rattle.change.specs.declared.Request.{Request}
 use Rattle.change.specs.declared.Request.the-variants.{Fetch}
 use Rattle.change.specs.Rule.{Map}
-use Rattle.desk.specs.declared.desks.Desk.{Desk}
-use Rattle.desk.specs.declared.desks.Desk.the-variants.{Empty, Holding}
+use Rattle.desk.specs.declared.record.Desk.{Desk}
+use Rattle.desk.specs.declared.record.Desk.the-variants.{Empty, Holding}
 use Rattle.desk.specs.declared.answer.Turned.the-variants.{Idle}
 use Rattle.desk.specs.declared.answer.Turn.{Turn}
 use Rattle.desk.specs.Desk.{fresh, held, with-desk, first-full, choose}

@@ -17,7 +17,7 @@ use Rattle.change.specs.Rule.{Map, rule}
 use Rattle.change.specs.declared.Request.{Request}
 use Rattle.change.specs.declared.Outcome.{Outcome}
 use Rattle.change.specs.declared.Outcome.the-variants.{Refused}
-use Rattle.desk.specs.declared.desks.Desk.the-variants.{Holding}
+use Rattle.desk.specs.declared.record.Desk.the-variants.{Holding}
 use Rattle.desk.specs.declared.answer.Submitted.the-variants.{Accepted}
 use Rattle.desk.specs.declared.answer.Turned.the-variants.{Served, Idle}
 use Rattle.desk.specs.Desk.{desks-most, fresh, held}

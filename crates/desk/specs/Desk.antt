@@ -6,8 +6,8 @@ use lib.ListN.{length, getD, set}
 use lib.Dec.{leb}
 use Rattle.words.specs.Tests.{if_then_else_, within}
 use Rattle.words.specs.Lists.{count-from}
-use Rattle.desk.specs.declared.desks.Desk.{Desk}
-use Rattle.desk.specs.declared.desks.Desk.the-variants.{Empty, Holding}
+use Rattle.desk.specs.declared.record.Desk.{Desk}
+use Rattle.desk.specs.declared.record.Desk.the-variants.{Empty, Holding}
 
 -- "each empty or holding one put, fetch or delete"
 abbrev pub fresh : Desk

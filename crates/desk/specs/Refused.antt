@@ -11,8 +11,8 @@ use Rattle.change.specs.declared.Request.{Request}
 use Rattle.change.specs.declared.Request.the-variants.{Put, Fetch, Delete}
 use Rattle.change.specs.declared.Outcome.the-variants as o
 use Rattle.change.specs.Conditions.{Rows, Says, Outside, ShortList, NoPool, Unfinished, Damaged, NoRoom, SplitsEight}
-use Rattle.desk.specs.declared.desks.Desk.{Desk}
-use Rattle.desk.specs.declared.desks.Desk.the-variants.{Empty, Holding}
+use Rattle.desk.specs.declared.record.Desk.{Desk}
+use Rattle.desk.specs.declared.record.Desk.the-variants.{Empty, Holding}
 use Rattle.desk.specs.declared.answer.Submitted.the-variants as s
 use Rattle.desk.specs.declared.answer.Turned.{Turned}
 use Rattle.desk.specs.declared.answer.Turned.the-variants.{Served, Idle, Refused}

@@ -6,8 +6,8 @@ use lib.Dec.{eqb}
 use Rattle.words.specs.Tests.{if_then_else_}
 use Rattle.words.specs.Event.{Event, event-at}
 use Rattle.change.specs.declared.Request.{Request}
-use Rattle.desk.specs.declared.desks.Desk.{Desk}
-use Rattle.desk.specs.declared.desks.Desk.the-variants.{Empty, Holding}
+use Rattle.desk.specs.declared.record.Desk.{Desk}
+use Rattle.desk.specs.declared.record.Desk.the-variants.{Empty, Holding}
 use Rattle.desk.specs.Desk.{held, accepts}
 use Rattle.desk.specs.Turn as d
 use Rattle.desk.specs.Turn.{Left}

@@ -10,8 +10,8 @@ use Rattle.words.specs.Carry.{after-all}
 use Rattle.words.specs.declared.refusal.Refusal.the-variants.{ShortList, NoDesk, FullDesk}
 use Rattle.change.specs.declared.Request.{Request}
 use Rattle.change.specs.Calls.{serve-answer, serve-list}
-use Rattle.desk.specs.declared.desks.Desk.{Desk}
-use Rattle.desk.specs.declared.desks.Desk.the-variants.{Empty, Holding}
+use Rattle.desk.specs.declared.record.Desk.{Desk}
+use Rattle.desk.specs.declared.record.Desk.the-variants.{Empty, Holding}
 use Rattle.desk.specs.declared.answer.Submitted.{Submitted}
 use Rattle.desk.specs.declared.answer.Submitted.the-variants as s
 use Rattle.desk.specs.declared.answer.Turned.{Turned}

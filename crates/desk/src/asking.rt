@@ -2,7 +2,7 @@
 use crate::answer::Submitted;
 use crate::answer::Turn;
 use crate::choosing::Chosen;
-use crate::desks::Desk;
+use crate::record::Desk;
 use crate::serving::serve_chosen;
 use crate::submitting::fill;
 use change::Request;

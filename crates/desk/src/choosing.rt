@@ -1,5 +1,5 @@
 // The desk that a turn serves.
-use crate::desks::Desk;
+use crate::record::Desk;
 ghost use mathlib.Core.Path.{_≡_};
 ghost use Prim.Native.Nat.{_≤_, _<_};
 ghost use lib.Dec.{ltb};

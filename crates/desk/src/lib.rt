@@ -2,7 +2,7 @@
 mod answer;
 mod asking;
 mod choosing;
-mod desks;
+mod record;
 mod serving;
 mod submitting;
 mod turning;
@@ -16,7 +16,7 @@ pub use choosing::Chosen;
 pub use choosing::looked_at;
 pub use choosing::looked_member;
 pub use choosing::note;
-pub use desks::Desk;
+pub use record::Desk;
 pub use serving::serve_chosen;
 pub use submitting::seat;
 pub use submitting::submit;

@@ -3,7 +3,7 @@ use crate::answer::Turn;
 use crate::answer::Turned;
 use crate::choosing::Chosen;
 use crate::choosing::looked_at;
-use crate::desks::Desk;
+use crate::record::Desk;
 use words::Pool;
 use words::Refusal;
 ghost use mathlib.Core.Path.{_≡_};

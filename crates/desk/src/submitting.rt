@@ -1,6 +1,6 @@
 // A member submits a request.
 use crate::answer::Submitted;
-use crate::desks::Desk;
+use crate::record::Desk;
 use change::Request;
 use words::Refusal;
 ghost use mathlib.Core.Path.{_≡_};

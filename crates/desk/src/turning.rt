@@ -1,7 +1,7 @@
 // A turn.
 use crate::answer::Turn;
 use crate::choosing::choose;
-use crate::desks::Desk;
+use crate::record::Desk;
 use crate::serving::serve_chosen;
 use crate::submitting::seat;
 ghost use mathlib.Core.Path.{_≡_};

@@ -13,8 +13,8 @@ use Rattle.words.specs.Tests.{if_then_else_}
 use Rattle.words.specs.declared.refusal.Refusal.the-variants.{NoDesk, FullDesk}
 use Rattle.change.specs.declared.Request.{Request}
 use Rattle.change.specs.declared.Request.the-variants.{Put, Fetch, Delete}
-use Rattle.desk.specs.declared.desks.Desk.{Desk}
-use Rattle.desk.specs.declared.desks.Desk.the-variants.{Empty, Holding}
+use Rattle.desk.specs.declared.record.Desk.{Desk}
+use Rattle.desk.specs.declared.record.Desk.the-variants.{Empty, Holding}
 use Rattle.desk.specs.declared.choosing.Chosen.{Chosen}
 use Rattle.desk.specs.declared.answer.Submitted.{Submitted}
 use Rattle.desk.specs.declared.answer.Submitted.the-variants.{Accepted, Refused}

@@ -7,8 +7,8 @@ use Rattle.words.specs.Tests.{if_then_else_}
 use Rattle.words.specs.Event.{at}
 use Rattle.change.specs.declared.Request.{Request}
 use Rattle.change.specs.declared.Request.the-variants.{Put, Fetch, Delete}
-use Rattle.desk.specs.declared.desks.Desk.{Desk}
-use Rattle.desk.specs.declared.desks.Desk.the-variants.{Empty, Holding}
+use Rattle.desk.specs.declared.record.Desk.{Desk}
+use Rattle.desk.specs.declared.record.Desk.the-variants.{Empty, Holding}
 use Rattle.desk.specs.Desk.{may-submit, accepts}
 use Rattle.desk.specs.Turn.{turn}
 

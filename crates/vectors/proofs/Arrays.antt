@@ -11,9 +11,9 @@ use denote.Enum.Laws as EL
 use denote.Laws.{Makes, Typed}
 use mir.Syntax.{tyArray}
 use Rattle.desk.proofs.Kit.{URA, Ty, erased, mut, w64, tyInt, tyRef, Val, Heap, Atoms, Given, RattleType, u64, pointee, sliceTy, Is, Room}
-use Rattle.desk.specs.declared.desks.Desk.{Desk}
-use Rattle.desk.proofs.desks.Desk as D
-use Rattle.desk.proofs.desks.Desk.Laws as D′
+use Rattle.desk.specs.declared.record.Desk.{Desk}
+use Rattle.desk.proofs.record.Desk as D
+use Rattle.desk.proofs.record.Desk.Laws as D′
 
 abbrev pub All : RattleType
 All = Array D.the-row 17

@@ -6,7 +6,7 @@ use contract.Running.{tablesOf}
 use Rattle.desk.proofs.Kit.{URA, named, w64, SProp, emp, via, fst∗, Memory, Routine, Heap, WpFn, Tables, Atoms, Fun, givenOf}
 use Rattle.desk.proofs.Kit.{tables, Given, WpFn-mono, uint-vals, uint-tells, u64, slice-vals, mut-slice-tells, plain, Triple, Meets}
 use Rattle.desk.proofs.Kit.{tripleOf, entered, cited, goes-slice, goes-none, Walks, walked, walk-meets, yes}
-use Rattle.desk.proofs.desks.Desk as D
+use Rattle.desk.proofs.record.Desk as D
 use Rattle.desk.proofs.choosing.looked_at.Symbol as looked-at-def
 use Rattle.desk.proofs.choosing.looked_at.Symbol.{name as #looked-at}
 use Rattle.desk.proofs.choosing.looked_at.Met as looked-at-thm

@@ -14,8 +14,8 @@ use Rattle.change.specs.declared.Request.{Request}
 use Rattle.change.specs.declared.Answer.{Answer}
 use Rattle.change.specs.Calls.{serve-answer, serve-list}
 use Rattle.change.proofs.Answers.{answer-told}
-use Rattle.desk.specs.declared.desks.Desk.{Desk}
-use Rattle.desk.specs.declared.desks.Desk.the-variants.{Empty, Holding}
+use Rattle.desk.specs.declared.record.Desk.{Desk}
+use Rattle.desk.specs.declared.record.Desk.the-variants.{Empty, Holding}
 use Rattle.desk.specs.declared.answer.Turned.the-variants.{Served, Idle, Refused}
 use Rattle.desk.specs.declared.answer.Turn.{Turn}
 use Rattle.desk.specs.Desk.{may-turn}

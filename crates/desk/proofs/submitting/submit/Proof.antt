@@ -21,7 +21,7 @@ use Rattle.desk.proofs.Kit.{slice-vals, mut-slice-tells, place-is, elem
 use Rattle.desk.proofs.Kit.{nothing, only, heard, peeks, Contract, Triple, calls-at, ensured, lasts, Vals, onEntry, Meets, tripleOf}
 use Rattle.desk.proofs.Kit.{entered, cited, says, Stays, stay-slice, stay-none, walkOf, goes-slice, goes-none, Walks, ends-at}
 use Rattle.desk.proofs.Kit.{walked, walk-meets, yes}
-use Rattle.desk.specs.declared.desks.Desk.{Desk}
+use Rattle.desk.specs.declared.record.Desk.{Desk}
 use Rattle.change.specs.declared.Request.{Request}
 use Rattle.desk.specs.declared.submitting.Filled.{Filled}
 use Rattle.desk.specs.declared.answer.Submitted.{Submitted}
@@ -35,8 +35,8 @@ use Rattle.desk.proofs.Frames.{all-unset}
 use Rattle.desk.proofs.Submits.{place, refuses, fills}
 use Rattle.words.proofs.refusal.Refusal as F
 use Rattle.words.proofs.refusal.Refusal.Laws as F′
-use Rattle.desk.proofs.desks.Desk as D
-use Rattle.desk.proofs.desks.Desk.Laws as D′
+use Rattle.desk.proofs.record.Desk as D
+use Rattle.desk.proofs.record.Desk.Laws as D′
 use Rattle.change.proofs.Request as R
 use Rattle.change.proofs.Request.Laws as R′
 use Rattle.desk.proofs.submitting.Filled as P

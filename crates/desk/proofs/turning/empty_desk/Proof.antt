@@ -20,14 +20,14 @@ use Rattle.desk.proofs.Kit.{at-slice, slice-vals, mut-slice-tells, plac
 use Rattle.desk.proofs.Kit.{owned, nothing, only, heard, peeks, Triple, calls-at, ensured, Vals, onEntry, Meets, tripleOf, entered}
 use Rattle.desk.proofs.Kit.{cited, says, Stays, stay-slice, stay-none, walkOf, goes-slice, goes-none, Walks, ends-at, walked}
 use Rattle.desk.proofs.Kit.{walk-meets, yes}
-use Rattle.desk.specs.declared.desks.Desk.{Desk}
+use Rattle.desk.specs.declared.record.Desk.{Desk}
 use Rattle.desk.specs.Desk.{fresh}
-use Rattle.desk.specs.declared.desks.Desk.the-variants.{Empty}
+use Rattle.desk.specs.declared.record.Desk.the-variants.{Empty}
 use Rattle.desk.specs.Parts.{emptied}
 use Rattle.desk.proofs.Frames.{all-unset}
 use Rattle.desk.proofs.Submits.{place, stays, empties}
-use Rattle.desk.proofs.desks.Desk as D
-use Rattle.desk.proofs.desks.Desk.Laws as D′
+use Rattle.desk.proofs.record.Desk as D
+use Rattle.desk.proofs.record.Desk.Laws as D′
 use Rattle.desk.proofs.submitting.seat as seat
 use Rattle.desk.proofs.submitting.seat.Symbol as seat-def
 use Rattle.desk.proofs.submitting.seat.Symbol.{name as #seat}

@@ -6,7 +6,7 @@ use Rattle.desk.proofs.Kit.{URA, named, w64, SProp, emp, via, fst∗, M
 use Rattle.desk.proofs.Kit.{givenOf, tables, Given, FmC, fmOf, WpFn-mono, uint-vals, uint-tells, u64, slice-vals, mut-slice-tells}
 use Rattle.desk.proofs.Kit.{plain, Triple, Meets, tripleOf, entered, cited, goes-gave-slice, goes-none, Walks, walked, walk-meets}
 use Rattle.desk.proofs.Kit.{yes}
-use Rattle.desk.proofs.desks.Desk as D
+use Rattle.desk.proofs.record.Desk as D
 use Rattle.desk.proofs.choosing.choose.Symbol as choose-def
 use Rattle.desk.proofs.choosing.choose.Symbol.{name as #choose}
 use Rattle.desk.proofs.choosing.choose.Met as choose-thm

@@ -5,7 +5,7 @@ use mathlib.Core.List.{List}
 use borrow.Author.Tests.{ne-eqb}
 use Rattle.words.specs.Event.{at}
 use Rattle.change.specs.declared.Request.the-variants.{Put, Fetch, Delete}
-use Rattle.desk.specs.declared.desks.Desk.the-variants.{Empty, Holding}
+use Rattle.desk.specs.declared.record.Desk.the-variants.{Empty, Holding}
 use Rattle.turns.specs.Desks.{put, fetch, delete, desk-of}
 use borrow.Author.Needs.{needs}
 use Rattle.turns.proofs.record.desk_of.Statement.{statement}

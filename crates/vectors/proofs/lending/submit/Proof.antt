@@ -20,13 +20,13 @@ use Rattle.desk.proofs.Kit.{shows, pointee, Nothing, nothing-lawful, uint-vals,
 use Rattle.desk.proofs.Kit.{owned, nothing, only, heard, peeks, Contract, Triple, calls-at, ensured, lasts, Vals, onEntry, Meets, tripleOf}
 use Rattle.desk.proofs.Kit.{entered, cited, says, Stays, stay-none, walkOf, goes-none, Walks, ends-at, walked, walk-meets, yes}
 use Rattle.desk.proofs.Frames.{all-unset}
-use Rattle.desk.specs.declared.desks.Desk.{Desk}
+use Rattle.desk.specs.declared.record.Desk.{Desk}
 use Rattle.change.specs.declared.Request.{Request}
 use Rattle.desk.specs.declared.answer.Submitted.{Submitted}
 use Rattle.desk.specs.Turn.{submit-desks}
 use Rattle.desk.specs.Promises.{SubmitPromise}
-use Rattle.desk.proofs.desks.Desk as D
-use Rattle.desk.proofs.desks.Desk.Laws as D′
+use Rattle.desk.proofs.record.Desk as D
+use Rattle.desk.proofs.record.Desk.Laws as D′
 use Rattle.change.proofs.Request as R
 use Rattle.change.proofs.Request.Laws as R′
 use Rattle.desk.proofs.answer.Submitted as S

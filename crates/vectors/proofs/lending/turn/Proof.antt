@@ -11,8 +11,8 @@ use denote.Triple.Walked.{needs, goes-gave-ref}
 use Rattle.desk.proofs.Kit.{URA, named, w64, SProp, Memory, Routine, Heap, Calls, Loops, WpFn, Tables, Atoms, Fun, givenOf, tables, Given}
 use Rattle.desk.proofs.Kit.{FmC, fmOf, WpFn-mono, uint-vals, uint-tells, u64, usize, slice-vals, mut-slice-tells, plain, Triple, Meets}
 use Rattle.desk.proofs.Kit.{tripleOf, entered, cited, goes-gave-slice, goes-none, Walks, walked, walk-meets, yes}
-use Rattle.desk.proofs.desks.Desk as D
-use Rattle.desk.proofs.desks.Desk.Laws as D′
+use Rattle.desk.proofs.record.Desk as D
+use Rattle.desk.proofs.record.Desk.Laws as D′
 use Rattle.desk.proofs.answer.Turn as S
 use Rattle.desk.proofs.answer.Turn.Laws as S′
 use Rattle.desk.proofs.turn.Symbol as inner-def

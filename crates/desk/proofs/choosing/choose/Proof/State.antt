@@ -10,7 +10,7 @@ use denote.Struct.Laws as LL
 use Rattle.desk.proofs.Kit.{Val, Is}
 use Rattle.words.specs.Event as event
 use Rattle.words.specs.Tests.{if_then_else_}
-use Rattle.desk.specs.declared.desks.Desk.{Desk}
+use Rattle.desk.specs.declared.record.Desk.{Desk}
 use Rattle.desk.specs.declared.choosing.Chosen.{Chosen}
 use Rattle.desk.specs.Desk.{desks-most, fresh, may-turn, round}
 use Rattle.desk.specs.Parts.{noted, chosen}

@@ -28,15 +28,15 @@ use Rattle.desk.proofs.Kit.{elem-back, opens-slice, closes-slice, plain
 use Rattle.desk.proofs.Kit.{calls-at, ensured, lasts, Vals, onEntry, tripleOf, says, Stays, stay-slice, stay-none, walkOf, ends-at}
 use Rattle.desk.proofs.Kit.{yes}
 use Rattle.words.specs.Event as event
-use Rattle.desk.specs.declared.desks.Desk.{Desk}
-use Rattle.desk.specs.declared.desks.Desk.the-variants.{Empty}
+use Rattle.desk.specs.declared.record.Desk.{Desk}
+use Rattle.desk.specs.declared.record.Desk.the-variants.{Empty}
 use Rattle.desk.specs.declared.choosing.Chosen.{Chosen}
 use Rattle.desk.specs.Desk.{desks-most, fresh, round}
 use Rattle.desk.specs.Parts.{noted, chosen}
 use Rattle.desk.proofs.Frames.{unset, holds, all-unset}
 use Rattle.desk.proofs.Looking.{nobody, all-looked, at-end}
-use Rattle.desk.proofs.desks.Desk as D
-use Rattle.desk.proofs.desks.Desk.Laws as D′
+use Rattle.desk.proofs.record.Desk as D
+use Rattle.desk.proofs.record.Desk.Laws as D′
 use Rattle.desk.proofs.choosing.Chosen as P
 use Rattle.desk.proofs.choosing.Chosen.Laws as P′
 use Rattle.desk.proofs.choosing.looked_at as looked-at

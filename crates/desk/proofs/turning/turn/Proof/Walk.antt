@@ -15,7 +15,7 @@ use Rattle.desk.proofs.Kit.{pass1, pass0, free1, free0, FmC, pointee, o
 use Rattle.desk.proofs.Kit.{usize, RefT, sliceTy, sliceVal, MutSlice, Room, finally, plain, owned, nothing, only, heard, peeks}
 use Rattle.desk.proofs.Kit.{Contract, Triple, calls-at, ensured, lasts, Vals, onEntry, tripleOf, says, Stays, gave-slice, stay-none}
 use Rattle.desk.proofs.Kit.{walkOf, ends-at, yes}
-use Rattle.desk.specs.declared.desks.Desk.{Desk}
+use Rattle.desk.specs.declared.record.Desk.{Desk}
 use Rattle.desk.specs.declared.choosing.Chosen.{Chosen}
 use Rattle.desk.specs.declared.answer.Turn.{Turn}
 use Rattle.desk.specs.Turn as t
@@ -25,7 +25,7 @@ use Rattle.desk.specs.Parts.{chosen, emptied}
 use Rattle.desk.proofs.Frames.{all-unset}
 use Rattle.desk.proofs.Again.{LentAgain, lends-again, comes-back}
 use Rattle.desk.proofs.Turns.{leaves}
-use Rattle.desk.proofs.desks.Desk as D
+use Rattle.desk.proofs.record.Desk as D
 use Rattle.desk.proofs.choosing.Chosen as P
 use Rattle.desk.proofs.choosing.Chosen.Laws as P′
 use Rattle.desk.proofs.answer.Turn as S

@@ -18,11 +18,11 @@ use Rattle.desk.proofs.Kit.{owns, Is, shows, pointee, Nothing, nothing-lawful, 
 use Rattle.desk.proofs.Kit.{Room, finally, plain, owned, nothing, only, heard, peeks, Contract, Triple, calls-at, ensured, lasts, Vals}
 use Rattle.desk.proofs.Kit.{onEntry, tripleOf, says, Stays, gave-slice, stay-none, walkOf, ends-at, yes}
 use Rattle.desk.proofs.Frames.{all-unset}
-use Rattle.desk.specs.declared.desks.Desk.{Desk}
+use Rattle.desk.specs.declared.record.Desk.{Desk}
 use Rattle.desk.specs.declared.answer.Turn.{Turn}
 use Rattle.desk.specs.Turn as t
 use Rattle.desk.specs.Promises.{TurnPromise}
-use Rattle.desk.proofs.desks.Desk as D
+use Rattle.desk.proofs.record.Desk as D
 use Rattle.desk.proofs.answer.Turn as S
 use Rattle.desk.proofs.answer.Turn.Laws as S′
 use Rattle.desk.proofs.turn as inner
