@@ -19,7 +19,7 @@ use Rattle.node.specs.View.{View, view, keys, slot-at, value-at}
 use Rattle.node.proofs.Spots.{lowest-below, lowest-new}
 use Rattle.tree.specs.Header.{total-in}
 use Rattle.tree.specs.WellFormed.{WellFormed}
-use Rattle.tree.specs.Reads.{Reads}
+use Rattle.tree.specs.inner.Reads.{Reads}
 use Rattle.tree.proofs.Way.{Reached}
 use Rattle.change.specs.Steps.{rank, entry-pairs, taken-slot, fill-spot, removed-slot}
 use Rattle.change.specs.Put.{replace-events, fill-events}

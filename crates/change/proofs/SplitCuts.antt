@@ -17,7 +17,7 @@ use Rattle.node.specs.Lists.{has}
 use Rattle.node.specs.View.{view, keys}
 use Rattle.tree.specs.Header.{total-in, capacity-of, used-of}
 use Rattle.tree.specs.WellFormed.{WellFormed}
-use Rattle.tree.specs.Reads.{Reads}
+use Rattle.tree.specs.inner.Reads.{Reads}
 use Rattle.tree.proofs.Lists.{each-append}
 use Rattle.tree.proofs.Form.{Form, form}
 use Rattle.tree.proofs.Hole.{above}

@@ -23,7 +23,7 @@ use Rattle.words.proofs.Logged.{redo, logged, Logs, LogFound, old, mid, new, lo
 use Rattle.tree.specs.Header.{total-in, form-agrees}
 use Rattle.tree.specs.WellFormed.{WellFormed}
 use Rattle.tree.specs.Map.{map-of}
-use Rattle.tree.specs.Reads.{Reads}
+use Rattle.tree.specs.inner.Reads.{Reads}
 use Rattle.tree.proofs.Lists.{each-left, each-right}
 use Rattle.tree.proofs.Form.{Form, form, form-same}
 use Rattle.tree.proofs.Read.{reads-same, reads-same-map}

@@ -12,7 +12,7 @@ use Rattle.node.specs.Slot.{entries}
 use Rattle.node.specs.View.{view, key-at, value-at}
 use Rattle.tree.specs.Header.{used-of}
 use Rattle.tree.specs.WellFormed.{WellFormed}
-use Rattle.tree.specs.Reads.{Reads}
+use Rattle.tree.specs.inner.Reads.{Reads}
 use Rattle.tree.proofs.Frame.{whole-named}
 use Rattle.change.proofs.Nodes.{name-small}
 

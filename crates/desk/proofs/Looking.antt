@@ -14,7 +14,7 @@ use Rattle.words.specs.Tests.{if_then_else_}
 use Rattle.desk.specs.declared.record.Desk.{Desk}
 use Rattle.desk.specs.declared.choosing.Chosen.{Chosen}
 use Rattle.desk.specs.Desk.{fresh, full, held, may-turn, round, first-full}
-use Rattle.desk.specs.Parts.{noted, seated, chosen}
+use Rattle.desk.specs.inner.Parts.{noted, seated, chosen}
 use Rattle.desk.proofs.Bounds.{may-turn-true, looked-some}
 use Rattle.desk.proofs.Round.{length-round, round-ahead, round-about}
 

@@ -14,7 +14,7 @@ use Rattle.desk.specs.declared.answer.Submitted.the-variants.{Accepted, 
 use Rattle.desk.specs.declared.submitting.Filled.{Filled}
 use Rattle.desk.specs.Desk.{fresh, full, may-submit}
 use Rattle.desk.specs.Turn.{submit-answer, submit-desks}
-use Rattle.desk.specs.Parts.{filled, emptied}
+use Rattle.desk.specs.inner.Parts.{filled, emptied}
 use Rattle.desk.proofs.Bounds.{may-submit-true}
 use Rattle.desk.proofs.Desks.{set-self}
 

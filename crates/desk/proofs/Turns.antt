@@ -11,7 +11,7 @@ use Rattle.desk.specs.declared.choosing.Chosen.{Chosen}
 use Rattle.desk.specs.declared.answer.Turn.{Turn}
 use Rattle.desk.specs.Desk.{fresh, held, with-desk, may-submit, may-turn, choose}
 use Rattle.desk.specs.Turn.{Left, serve-turn, turn, turn-desks}
-use Rattle.desk.specs.Parts.{seated, chosen, emptied}
+use Rattle.desk.specs.inner.Parts.{seated, chosen, emptied}
 use Rattle.desk.proofs.Bounds.{may-turn-true, submit-may}
 use Rattle.desk.proofs.Choose.{Choice, nobody, nearest, chosen as chosen-is}
 use Rattle.desk.proofs.Served.{member-is}

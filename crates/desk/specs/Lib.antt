@@ -4,7 +4,7 @@ pub mod Turn
 pub mod Answers
 pub mod Promises
 pub mod Refused
-pub mod Parts
 pub mod Rows
 pub mod Demand3
 pub mod OurPools
+pub mod inner

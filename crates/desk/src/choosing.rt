@@ -6,7 +6,7 @@ ghost use lib.Dec.{ltb};
 ghost use Rattle.words.specs.Event.{at};
 ghost use Rattle.words.specs.Tests.{if_then_else_};
 ghost use Rattle.desk.specs.Desk.{desks-most, may-turn, round};
-ghost use Rattle.desk.specs.Parts.{noted, chosen};
+ghost use Rattle.desk.specs.inner.Parts.{noted, chosen};
 
 // A member and its desk; 0 and a fresh desk where none is full.
 pub struct Chosen {

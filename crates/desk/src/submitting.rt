@@ -8,7 +8,7 @@ ghost use Prim.Native.Nat.{_-_};
 ghost use Rattle.words.specs.Tests.{if_then_else_};
 ghost use Rattle.desk.specs.Desk.{may-submit};
 ghost use Rattle.desk.specs.Promises.{SubmitPromise};
-ghost use Rattle.desk.specs.Parts.{filled};
+ghost use Rattle.desk.specs.inner.Parts.{filled};
 
 // What a desk becomes, and the answer.
 pub struct Filled {

@@ -5,7 +5,7 @@ use crate::record::Desk;
 use crate::serving::serve_chosen;
 use crate::submitting::seat;
 ghost use mathlib.Core.Path.{_≡_};
-ghost use Rattle.desk.specs.Parts.{emptied};
+ghost use Rattle.desk.specs.inner.Parts.{emptied};
 ghost use Rattle.desk.specs.Promises.{TurnPromise};
 
 // A member's desk is made fresh, where there is one.

@@ -8,7 +8,7 @@ use native.Mathlib.Omega.{arith}
 use lib.ListN.{length, getD, take, set, length-append}
 use lib.Seq.{sets, take-suc, length-take-le}
 use Rattle.line.specs.Line.{digits}
-use Rattle.line.specs.Written.{Wrote}
+use Rattle.line.specs.inner.Written.{Wrote}
 use Rattle.line.proofs.Decimal.{digits-one, digits-more}
 
 pub sets-append : (xs ys out : List ℕ) (at : ℕ) → sets out at (xs ++ ys) ≡ sets (sets out at xs) (at + length xs) ys

@@ -6,7 +6,7 @@ use change::Outcome;
 use change::Request;
 ghost use Prim.Native.Nat.{_+_, _≤_};
 ghost use lib.ListN.{length};
-ghost use Rattle.line.specs.Written.{Wrote};
+ghost use Rattle.line.specs.inner.Written.{Wrote};
 ghost use Rattle.line.specs.Line as t;
 
 fn write_command(out: &mut [u8], at: usize, request: Request) -> usize

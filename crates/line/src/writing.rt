@@ -2,7 +2,7 @@
 ghost use Prim.Native.Nat.{_+_, _≤_};
 ghost use lib.ListN.{length};
 ghost use Rattle.line.specs.Line.{digits};
-ghost use Rattle.line.specs.Written.{Wrote};
+ghost use Rattle.line.specs.inner.Written.{Wrote};
 
 pub fn write_bytes(out: &mut [u8], at: usize, bytes: &[u8]) -> usize
     requires { ⌜ at + length (now bytes) ≤ length (now out) ⌝ }

@@ -10,7 +10,7 @@ use lib.ListN.{length}
 use Rattle.words.proofs.Tests.{both}
 use Rattle.node.specs.Lists.{last-of}
 use Rattle.node.specs.View.{Record, View, keys, good}
-use Rattle.node.specs.Looked.{Looked, ends}
+use Rattle.node.specs.inner.Looked.{Looked, ends}
 use Rattle.node.specs.declared.cover.Look.{Look}
 
 -- an upper end that is one past a key, the top

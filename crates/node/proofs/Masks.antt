@@ -13,7 +13,7 @@ use Rattle.words.specs.Tests.{if_then_else_}
 use Rattle.words.proofs.Turns.{turn, over}
 use Rattle.node.specs.Lists.{has}
 use Rattle.node.specs.Slot.{byte, bytes}
-use Rattle.node.specs.Marks.{marked}
+use Rattle.node.specs.inner.Marks.{marked}
 use Rattle.node.proofs.Joins.{one-shifted}
 
 pub marked-none : (x : ℕ) → marked 0 x ≡ false

@@ -10,7 +10,7 @@ use lib.Dec.{ltb, leb, eqb}
 use lib.ListN.{length}
 use Rattle.words.specs.Tests.{if_then_else_}
 use Rattle.node.specs.Lists.{rising, covered, last-of}
-use Rattle.node.specs.Looked.{ends}
+use Rattle.node.specs.inner.Looked.{ends}
 use Rattle.words.proofs.Tests.{both}
 
 -- a key may come after j others, the last of them `low`

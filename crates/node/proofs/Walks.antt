@@ -15,7 +15,7 @@ use Rattle.words.proofs.Turns.{turn, over}
 use Rattle.node.specs.Lists.{all-below, different, rising, covered, upto, last-of}
 use Rattle.node.specs.Slot.{byte, bytes, count, names, entries}
 use Rattle.node.specs.View.{slot-at, view, keys, entry, sound, good}
-use Rattle.node.specs.Looked.{Looked, ends}
+use Rattle.node.specs.inner.Looked.{Looked, ends}
 use Rattle.node.proofs.Passes.{follows, later, rises, final, final-is, turned, rises-covered, assembled}
 use Rattle.node.proofs.Ranks.{rising-different}
 use Rattle.node.proofs.Slots.{length-names, names-at}

@@ -2,5 +2,4 @@
 pub mod Lists
 pub mod Slot
 pub mod View
-pub mod Marks
-pub mod Looked
+pub mod inner

@@ -6,7 +6,7 @@ ghost use Rattle.words.specs.Pool as p;
 ghost use Rattle.words.specs.Event.{at};
 ghost use Rattle.node.specs.Slot as s;
 ghost use Rattle.node.specs.View as v;
-ghost use Rattle.node.specs.Looked.{Inside};
+ghost use Rattle.node.specs.inner.Looked.{Inside};
 
 pub struct Node {}
 

@@ -13,8 +13,8 @@ ghost use Rattle.words.specs.Tests.{if_then_else_};
 ghost use Rattle.words.specs.Event.{at};
 ghost use Rattle.node.specs.Lists.{upto};
 ghost use Rattle.node.specs.View as v;
-ghost use Rattle.node.specs.Looked as l;
-ghost use Rattle.node.specs.Looked.{Inside, Looked, Placed, end-of};
+ghost use Rattle.node.specs.inner.Looked as l;
+ghost use Rattle.node.specs.inner.Looked.{Inside, Looked, Placed, end-of};
 
 // Key x may come after j others: the first is not below `low`, and each later one above it.
 fn follows(j: u64, low: u64, x: u64) -> bool

@@ -5,7 +5,7 @@ ghost use Prim.Native.Nat.{ℕ, _≤_, _<_};
 ghost use lib.Dec.{eqb};
 ghost use Rattle.node.specs.Lists.{has};
 ghost use Rattle.node.specs.Slot.{bytes};
-ghost use Rattle.node.specs.Marks as m;
+ghost use Rattle.node.specs.inner.Marks as m;
 
 pub fn marked(seen: u64, x: u64) -> bool
     requires { ⌜ x < 64 ⌝ }

@@ -24,7 +24,7 @@ use Rattle.change.specs.Check.{walked, Examined, refuse, check-past-gate, check
 use Rattle.pool.specs.declared.checking.Seen.{Seen}
 use Rattle.pool.specs.declared.checking.Walk.{Walk}
 use Rattle.pool.specs.declared.checking.Walk.the-variants.{Fault, Going}
-use Rattle.pool.specs.Checking.{seen-with, Ready, Walks, Passed}
+use Rattle.pool.specs.inner.Checking.{seen-with, Ready, Walks, Passed}
 use Rattle.pool.proofs.Marks.{unmarked-most}
 
 -- what is answered and left is what is examined

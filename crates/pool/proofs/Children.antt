@@ -9,7 +9,7 @@ use lib.Seq.{drop-cons}
 use Rattle.words.specs.Event.{at}
 use Rattle.node.specs.Slot.{count, names, entries}
 use Rattle.node.specs.View.{Record, view, key-at, value-at}
-use Rattle.node.specs.Looked.{end-of}
+use Rattle.node.specs.inner.Looked.{end-of}
 use Rattle.node.proofs.Slots.{length-names}
 use Rattle.node.proofs.Every.{below-at}
 use Rattle.node.proofs.Views.{view-length, record-at}
@@ -19,7 +19,7 @@ use Rattle.pool.specs.declared.checking.Kid.{Kid}
 use Rattle.pool.specs.declared.checking.Seen.{Seen}
 use Rattle.pool.specs.declared.checking.Walk.{Walk}
 use Rattle.pool.specs.declared.checking.Walk.the-variants.{Fault, Going}
-use Rattle.pool.specs.Checking.{kid-of, kids-left, seen-with, Slots, Walks}
+use Rattle.pool.specs.inner.Checking.{kid-of, kids-left, seen-with, Slots, Walks}
 use Rattle.pool.proofs.Walks.{stopped, carried}
 
 -- the walk of some children, the first of which is walked by f

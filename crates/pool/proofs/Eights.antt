@@ -11,7 +11,7 @@ use Rattle.words.specs.Event.{at}
 use Rattle.node.specs.Lists.{insert, all-below, covered}
 use Rattle.node.specs.Slot.{bytes, names, count, entries, slot, spot}
 use Rattle.node.specs.View.{Record, view, keys, entry, slot-at, key-at, good, no-end}
-use Rattle.node.specs.Looked.{Inside}
+use Rattle.node.specs.inner.Looked.{Inside}
 use Rattle.node.proofs.Digits.{bytes-take}
 use Rattle.node.proofs.Places.{length-insert, getD-insert}
 use Rattle.node.proofs.Every.{below-insert, below-at}
@@ -23,7 +23,7 @@ use Rattle.tree.specs.Kids.{leaf-least}
 use Rattle.change.specs.Steps.{rank, full, lower, lower-slot}
 use Rattle.change.proofs.Counts.{length-eight}
 use Rattle.pool.specs.declared.opening.Eight.{Eight}
-use Rattle.pool.specs.Splitting.{Met, Named, Opened, new-of, eight-of}
+use Rattle.pool.specs.inner.Splitting.{Met, Named, Opened, new-of, eight-of}
 
 -- words of 64 bits are below the end of the widest cover
 covered-all : (m : List ℕ) (k : ℕ) (ns : List ℕ) → ((i : ℕ) → at m i < no-end) → covered 0 no-end (map (key-of m k) ns) ≡ true

@@ -23,7 +23,7 @@ use Rattle.change.specs.Gate.{Planned, quiet, refused, at-leaf}
 use Rattle.change.specs.Fetch.{fetch-at, fetch}
 use Rattle.pool.specs.declared.gate.Gate.the-variants as g
 use Rattle.pool.specs.Promises.{FetchPromise}
-use Rattle.pool.specs.Passing.{Admitted, Gated}
+use Rattle.pool.specs.inner.Passing.{Admitted, Gated}
 use Rattle.pool.proofs.Gates.{found-leaf, gate-at}
 
 module _ (m : List ℕ) (key : ℕ) where

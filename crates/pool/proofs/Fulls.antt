@@ -16,7 +16,7 @@ use Rattle.tree.specs.Header.{capacity-of, used-of, height-of, counts-agree}
 use Rattle.tree.specs.Path.{levels-above, leaf, way-to}
 use Rattle.tree.specs.Lists.{Each}
 use Rattle.tree.specs.declared.descend.Seat.{Seat}
-use Rattle.tree.specs.Descended.{above-of, Reaches, Seated, Pathed}
+use Rattle.tree.specs.inner.Descended.{above-of, Reaches, Seated, Pathed}
 use Rattle.tree.proofs.Form.{form, counts}
 use Rattle.tree.proofs.Path.{way-to-counts}
 use Rattle.tree.proofs.Leaves.{AtLeaf, at-leaf}
@@ -25,8 +25,8 @@ use Rattle.change.specs.Gate.{refused}
 use Rattle.change.specs.Steps.{full}
 use Rattle.change.specs.Plan.{plan-events}
 use Rattle.change.specs.Put.{needed, split, put-at}
-use Rattle.pool.specs.Puts.{Full, put-there}
-use Rattle.pool.specs.Splitting.{Met, ToSplit}
+use Rattle.pool.specs.inner.Puts.{Full, put-there}
+use Rattle.pool.specs.inner.Splitting.{Met, ToSplit}
 use Rattle.pool.proofs.Meets.{way-to-met}
 
 -- a path of a leaf and the nodes above it

@@ -9,7 +9,7 @@ use Rattle.words.specs.declared.refusal.Refusal.{Refusal}
 use Rattle.words.specs.declared.refusal.Refusal.the-variants.{ShortList, NoPool, Unfinished, Damaged}
 use Rattle.tree.specs.Header.{commit-of, form-agrees}
 use Rattle.tree.specs.Path.{failed, way-to}
-use Rattle.tree.specs.Descended.{above-of, Descended}
+use Rattle.tree.specs.inner.Descended.{above-of, Descended}
 use Rattle.tree.specs.declared.descend.Seat.{Seat}
 use Rattle.tree.specs.declared.descend.Descent.{Descent}
 use Rattle.tree.specs.declared.descend.Descent.the-variants.{Fault, Leaf}
@@ -18,7 +18,7 @@ use Rattle.change.specs.declared.Outcome.{Outcome}
 use Rattle.change.specs.Gate.{Planned, refused, past-list, past-form, past-gate, at-leaf}
 use Rattle.pool.specs.declared.gate.Gate.{Gate}
 use Rattle.pool.specs.declared.gate.Gate.the-variants.{Refused, Passed}
-use Rattle.pool.specs.Passing.{Admitted, Gated}
+use Rattle.pool.specs.inner.Passing.{Admitted, Gated}
 
 module _ {A : Type 0} (refuse : Refusal → A) (body : A) where
   pub short-list : (room : ℕ) → room < list-words → past-list refuse room body ≡ refuse ShortList

@@ -27,8 +27,8 @@ use Rattle.change.proofs.Counts.{length-eight}
 use Rattle.pool.specs.declared.opening.Eight.{Eight}
 use Rattle.pool.specs.declared.rising.Up.{Up}
 use Rattle.pool.specs.declared.rising.Tally.{Tally}
-use Rattle.pool.specs.Splitting.{Named, Opened, new-of, eight-of, if-stays, Noted, up-of, Level, LeafLevel, InnerLevel}
-use Rattle.pool.specs.Splitting.{parent-pairs, new-root, Done, levels}
+use Rattle.pool.specs.inner.Splitting.{Named, Opened, new-of, eight-of, if-stays, Noted, up-of, Level, LeafLevel, InnerLevel}
+use Rattle.pool.specs.inner.Splitting.{parent-pairs, new-root, Done, levels}
 use Rattle.pool.proofs.Notes.{noted-append}
 use Rattle.pool.proofs.Eights.{opened-eight, slot-lower}
 use Rattle.pool.proofs.Builds.{one-line, two-lines}

@@ -18,7 +18,7 @@ use Rattle.change.specs.Plan.{log-words, log-written, log-replayed, log-finishe
 use Rattle.change.specs.Recover.{log-pairs}
 use Rattle.change.proofs.Lines.{length-log, log-lines}
 use Rattle.change.proofs.Counts.{length-log-pairs}
-use Rattle.pool.specs.Splitting.{Near}
+use Rattle.pool.specs.inner.Splitting.{Near}
 
 pub near-at : (c w i : ℕ) (g : List ℕ) → Near (log-pairs c w g) → i < c → at g (w + 2 * i) < top-byte
 unfolding log-pairs

@@ -12,7 +12,7 @@ use Rattle.tree.specs.Path.{Way, leaf, parent, way, levels-above, way-to}
 use Rattle.tree.specs.Lists.{Each}
 use Rattle.tree.proofs.Path.{Passed, passed, way-to-counts, way-to-down}
 use Rattle.tree.proofs.Ways.{inside}
-use Rattle.pool.specs.Splitting.{Met}
+use Rattle.pool.specs.inner.Splitting.{Met}
 use Rattle.pool.proofs.Eights.{met-good}
 
 module _ (m : List ℕ) (words : (i : ℕ) → at m i < no-end) (agree : form-agrees m ≡ true) (bounded : counts-agree m ≡ true) where

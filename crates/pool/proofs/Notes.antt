@@ -11,7 +11,7 @@ use Rattle.words.specs.Event.{at, top-byte}
 use Rattle.words.specs.Blocks.{Pair}
 use Rattle.tree.proofs.Lists.{each-append}
 use Rattle.change.specs.Recover.{log-pairs}
-use Rattle.pool.specs.Splitting.{Noted}
+use Rattle.pool.specs.inner.Splitting.{Noted}
 
 -- a word above the pairs is set
 pairs-below : (c w j v : ℕ) (g : List ℕ) → w + 2 * c ≤ j → log-pairs c w (set g j v) ≡ log-pairs c w g

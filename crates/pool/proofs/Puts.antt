@@ -20,7 +20,7 @@ use Rattle.tree.proofs.Leaves.{AtLeaf}
 use Rattle.change.specs.declared.Outcome.the-variants.{New, Replaced}
 use Rattle.change.specs.Put.{replace-events, fill-events, put-at}
 use Rattle.change.proofs.Lines.{entry-stored}
-use Rattle.pool.specs.Puts.{Says}
+use Rattle.pool.specs.inner.Puts.{Says}
 
 module _ {u : View} {w key place : ℕ} (s : Says u w key place) (k value : ℕ) where
   pub replaced : {e v n : ℕ} {l l′ : List ℕ} → e ≡ getD (names w) place 0 → v ≡ value-at k e → Wrote (once v value) 0 l n l′

@@ -22,8 +22,8 @@ use Rattle.change.proofs.Counts.{staying-few, needed-full, needed-room, plan-co
 use Rattle.change.proofs.Most.{depth}
 use Rattle.pool.specs.declared.rising.Up.{Up}
 use Rattle.pool.specs.declared.rising.Tally.{Tally}
-use Rattle.pool.specs.Splitting.{Met, Near, Noted, up-of, Room, LeafLevel, InnerLevel, parent-pairs, Done}
-use Rattle.pool.specs.Splitting.{levels, Ready, ToSplit}
+use Rattle.pool.specs.inner.Splitting.{Met, Near, Noted, up-of, Room, LeafLevel, InnerLevel, parent-pairs, Done}
+use Rattle.pool.specs.inner.Splitting.{levels, Ready, ToSplit}
 use Rattle.pool.proofs.Levels.{upper-events, levels-none, levels-some, path-levels}
 use Rattle.pool.proofs.Levels.{rise-full, rise-room, split-done}
 

@@ -14,7 +14,7 @@ use Rattle.words.specs.Event.{at}
 use Rattle.words.proofs.Tests.{both, within-says}
 use Rattle.node.specs.Slot.{byte, count, names, entries}
 use Rattle.node.specs.View.{View, view, slot-at, link-at}
-use Rattle.node.specs.Looked.{end-of}
+use Rattle.node.specs.inner.Looked.{end-of}
 use Rattle.node.proofs.Slots.{length-names}
 use Rattle.node.proofs.Views.{Good, good-parts, view-names, view-length}
 use Rattle.tree.specs.Header.{capacity-of, used-of}
@@ -25,7 +25,7 @@ use Rattle.pool.specs.declared.checking.Kid.{Kid}
 use Rattle.pool.specs.declared.checking.Seen.{Seen}
 use Rattle.pool.specs.declared.checking.Walk.{Walk}
 use Rattle.pool.specs.declared.checking.Walk.the-variants.{Fault, Going}
-use Rattle.pool.specs.Checking.{kid-of, seen-with, walk-with, leaf-walk, Marked, Leaf, Ready, Slots, ReadyAfter, Walks}
+use Rattle.pool.specs.inner.Checking.{kid-of, seen-with, walk-with, leaf-walk, Marked, Leaf, Ready, Slots, ReadyAfter, Walks}
 use Rattle.pool.proofs.Marks.{unmarked-less}
 
 -- a walk that stops

@@ -2,8 +2,4 @@
 pub mod Promises
 pub mod Demand1
 pub mod Demand2
-pub mod Formatting
-pub mod Passing
-pub mod Puts
-pub mod Splitting
-pub mod Checking
+pub mod inner

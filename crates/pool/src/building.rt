@@ -17,7 +17,7 @@ ghost use Rattle.words.specs.Written.{Wrote};
 ghost use Rattle.node.specs.Slot.{slot, entries};
 ghost use Rattle.node.specs.View.{slot-at, link-at};
 ghost use Rattle.change.specs.Steps.{entry-pairs, laid, new-node, lower};
-ghost use Rattle.pool.specs.Splitting.{Opened, eight-of};
+ghost use Rattle.pool.specs.inner.Splitting.{Opened, eight-of};
 
 // The slot word of `count` entries and word 1.
 fn write_head(list: &mut [u64], n: u64, k: u64, count: u64, link: u64) -> u64

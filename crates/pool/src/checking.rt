@@ -17,13 +17,14 @@ ghost use mathlib.Core.Path.{_≡_};
 ghost use mathlib.Core.Bool.{true};
 ghost use mathlib.Core.List.{List};
 ghost use lib.ListN.{length};
-ghost use Rattle.node.specs.Looked.{end-of};
+ghost use Rattle.node.specs.inner.Looked.{end-of};
 ghost use Rattle.tree.specs.Header as h;
 ghost use Rattle.tree.specs.Kids.{kid, below-root-least};
 ghost use Rattle.tree.specs.Check as t;
 ghost use Rattle.change.specs.Check.{walked};
 ghost use Rattle.pool.specs.Promises.{CheckPromise};
-ghost use Rattle.pool.specs.Checking.{kid-of, kids-left, seen-with, leaf-walk, Room, Marked, Leaf, Ready, Slots, Walks, Passed};
+ghost use Rattle.pool.specs.inner.Checking.{kid-of, kids-left, seen-with, leaf-walk, Room, Marked};
+ghost use Rattle.pool.specs.inner.Checking.{Leaf, Ready, Slots, Walks, Passed};
 
 // A child's number, and the keys that it covers.
 pub struct Kid {

@@ -13,7 +13,7 @@ ghost use mathlib.Core.Path.{_≡_};
 ghost use lib.ListN.{length};
 ghost use Rattle.words.specs.Pool.{list-words};
 ghost use Rattle.change.specs.Gate.{answered, list-after};
-ghost use Rattle.pool.specs.Puts.{Full, put-there};
+ghost use Rattle.pool.specs.inner.Puts.{Full, put-there};
 
 // The leaf is full and has not the key. The nodes are counted before anything is written.
 pub fn put_full(pool: &[u64], list: &mut [u64], seat: Seat, key: u64, value: u64) -> Answer

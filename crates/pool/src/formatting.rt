@@ -12,7 +12,7 @@ ghost use Rattle.words.specs.Pool as p;
 ghost use Rattle.words.specs.Written.{Wrote};
 ghost use Rattle.change.specs.Format.{format-events};
 ghost use Rattle.pool.specs.Promises.{FormatPromise};
-ghost use Rattle.pool.specs.Formatting.{header-events, leaf-events};
+ghost use Rattle.pool.specs.inner.Formatting.{header-events, leaf-events};
 
 // The header's words 1 to 7.
 fn fresh_header(list: &mut [u64], n: u64, capacity: u64) -> u64

@@ -5,7 +5,7 @@ use tree::descend::descend;
 use tree::header::form_agrees;
 use words::Pool;
 use words::Refusal;
-ghost use Rattle.pool.specs.Passing.{Gated};
+ghost use Rattle.pool.specs.inner.Passing.{Gated};
 
 // Why the call is refused; or the leaf.
 pub enum Gate {

@@ -19,7 +19,7 @@ ghost use Rattle.node.specs.Slot.{entries};
 ghost use Rattle.change.specs.Steps.{entry-pairs};
 ghost use Rattle.change.specs.Plan.{log-words, log-finished, log-events};
 ghost use Rattle.change.specs.Recover.{log-pairs};
-ghost use Rattle.pool.specs.Splitting.{if-stays, Near, Noted};
+ghost use Rattle.pool.specs.inner.Splitting.{if-stays, Near, Noted};
 
 // One pair, after the c that are noted.
 pub fn note(log: &mut [u64; 62], c: u64, address: u64, value: u64) -> u64

@@ -26,8 +26,8 @@ ghost use Rattle.node.specs.Lists.{all-below};
 ghost use Rattle.node.specs.Slot as s;
 ghost use Rattle.change.specs.Gate.{answered, list-after};
 ghost use Rattle.pool.specs.Promises.{PutPromise};
-ghost use Rattle.pool.specs.Passing.{Admitted};
-ghost use Rattle.pool.specs.Puts.{Replaces, Fills, put-there};
+ghost use Rattle.pool.specs.inner.Passing.{Admitted};
+ghost use Rattle.pool.specs.inner.Puts.{Replaces, Fills, put-there};
 
 // A present key: its value is stored.
 fn replace(list: &mut [u64], leaf: u64, slot: u64, rank: u64, value: u64) -> u64

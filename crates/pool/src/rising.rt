@@ -24,7 +24,7 @@ ghost use Rattle.node.specs.View.{slot-at};
 ghost use Rattle.tree.specs.Header.{height-of};
 ghost use Rattle.tree.specs.Lists.{Each};
 ghost use Rattle.change.specs.Put.{rise, needed};
-ghost use Rattle.pool.specs.Splitting.{Met, Noted, Room, InnerLevel, parent-pairs, new-root, Done, up-of, levels, Ready};
+ghost use Rattle.pool.specs.inner.Splitting.{Met, Noted, Room, InnerLevel, parent-pairs, new-root, Done, up-of, levels, Ready};
 
 // A key goes up with its child; so many events are written and pairs noted so far.
 pub struct Up {

@@ -22,7 +22,7 @@ ghost use Rattle.node.specs.View.{view, slot-at};
 ghost use Rattle.change.specs.Steps as steps;
 ghost use Rattle.change.specs.Plan.{plan-events};
 ghost use Rattle.change.specs.Put.{split};
-ghost use Rattle.pool.specs.Splitting.{Met, Room, LeafLevel, ToSplit};
+ghost use Rattle.pool.specs.inner.Splitting.{Met, Room, LeafLevel, ToSplit};
 
 // Full leaf k, whose slot word is w, splits: the new record has its rank there.
 fn split_leaf(

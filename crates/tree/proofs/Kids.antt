@@ -14,12 +14,12 @@ use Rattle.node.specs.Slot.{count, names, entries}
 use Rattle.node.specs.View.{Record, view, keys, entry, slot-at, link-at, key-at, value-at}
 use Rattle.node.proofs.Every.{below-at}
 use Rattle.node.proofs.Slots.{length-names}
-use Rattle.node.specs.Looked.{Inside, Looked}
+use Rattle.node.specs.inner.Looked.{Inside, Looked}
 use Rattle.node.specs.declared.cover.Look.{Look}
 use Rattle.node.proofs.Ranks.{upto-length}
 use Rattle.node.proofs.Views.{Good, view-length, view-names, record-at, keys-many}
 use Rattle.tree.specs.Kids.{Kid, kid, kids-from, pick-from, pick}
-use Rattle.tree.specs.Descended.{Named, kid-after}
+use Rattle.tree.specs.inner.Descended.{Named, kid-after}
 
 module _ (lo hi : ℕ) (d : Kid) where
   first-number : (l : ℕ) (rs : List Record) → getD (kids-from l lo hi rs) 0 d .number ≡ l

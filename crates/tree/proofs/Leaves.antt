@@ -18,7 +18,7 @@ use Rattle.tree.specs.Header.{used-of, form-agrees}
 use Rattle.tree.specs.Kids.{Kid, pick, root-kid, leaf-least, inner-least, fits}
 use Rattle.tree.specs.Path.{Way, leaf, parent, way, levels-above}
 use Rattle.tree.specs.Map.{find}
-use Rattle.tree.specs.Descended.{Named, Seated}
+use Rattle.tree.specs.inner.Descended.{Named, Seated}
 use Rattle.tree.proofs.Find.{find-present}
 use Rattle.tree.proofs.Path.{Passed, passed, way-to-counts, way-to-down}
 use Rattle.tree.proofs.Kids.{named-at, good-named}

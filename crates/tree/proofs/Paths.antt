@@ -9,7 +9,7 @@ use lib.ListN.{length, set, take, drop, replicate, length-set}
 use lib.Seq.{drop-cons, getD-set-same, drop-set-lt}
 use Rattle.words.specs.Tests.{within}
 use Rattle.node.specs.View.{View, view, keys, good, no-end}
-use Rattle.node.specs.Looked.{Inside, Looked}
+use Rattle.node.specs.inner.Looked.{Inside, Looked}
 use Rattle.node.specs.declared.cover.Look.{Look}
 use Rattle.node.proofs.Every.{covered-more}
 use Rattle.node.proofs.Views.{Good, good-parts, parts-good}
@@ -17,7 +17,7 @@ use Rattle.node.proofs.Ends.{seen-good}
 use Rattle.tree.specs.Header.{used-of, root-of, form-agrees, counts-agree}
 use Rattle.tree.specs.Kids.{Kid, kid, pick, leaf-least, inner-least, fits}
 use Rattle.tree.specs.Path.{Way, leaf, parent, way, levels-above}
-use Rattle.tree.specs.Descended.{Reaches, Pathed, kid-after}
+use Rattle.tree.specs.inner.Descended.{Reaches, Pathed, kid-after}
 use Rattle.tree.proofs.Form.{counts}
 use Rattle.tree.proofs.Path.{Passed, passed, way-to-counts, way-to-down}
 use Rattle.tree.proofs.Kids.{picked}

@@ -16,7 +16,7 @@ use Rattle.node.proofs.Views.{view-same, view-names}
 use Rattle.tree.specs.Header.{used-of}
 use Rattle.tree.specs.WellFormed.{WellFormed}
 use Rattle.tree.specs.Map.{records-of, map-of, find}
-use Rattle.tree.specs.Reads.{Reads, ReadsNode}
+use Rattle.tree.specs.inner.Reads.{Reads, ReadsNode}
 use Rattle.tree.proofs.Form.{header-well-formed, header-records}
 use Rattle.tree.proofs.Frame.{whole-same, whole-records}
 

@@ -12,7 +12,7 @@ use Rattle.words.specs.Tests.{within}
 use Rattle.words.specs.Event.{at}
 use Rattle.words.proofs.Tests.{within-says}
 use Rattle.node.specs.View.{view, good, slot-at, no-end}
-use Rattle.node.specs.Looked.{Inside, Looked, Placed}
+use Rattle.node.specs.inner.Looked.{Inside, Looked, Placed}
 use Rattle.node.specs.declared.cover.Look.{Look}
 use Rattle.node.specs.declared.cover.Place.{Place}
 use Rattle.node.proofs.Views.{Good, good-parts}
@@ -20,7 +20,7 @@ use Rattle.node.proofs.Ends.{not-good, kept}
 use Rattle.tree.specs.Header.{used-of, root-of, capacity-of, counts-agree, form-agrees}
 use Rattle.tree.specs.Kids.{Kid, kid, pick}
 use Rattle.tree.specs.Path.{failed, leaf, parent, way, levels-above, way-to}
-use Rattle.tree.specs.Descended.{Seated, kid-after}
+use Rattle.tree.specs.inner.Descended.{Seated, kid-after}
 use Rattle.tree.proofs.Form.{Form, Counts, form, counts}
 use Rattle.tree.proofs.Kids.{picked, pick-covers}
 

@@ -5,7 +5,6 @@ pub mod Path
 pub mod Lists
 pub mod WellFormed
 pub mod Map
-pub mod Reads
 pub mod Check
 pub mod Visits
-pub mod Descended
+pub mod inner

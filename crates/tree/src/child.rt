@@ -8,7 +8,7 @@ ghost use mathlib.Core.Path.{_≡_};
 ghost use Prim.Native.Nat.{ℕ, suc, _≤_};
 ghost use Rattle.node.specs.Slot as s;
 ghost use Rattle.tree.specs.Kids.{kid};
-ghost use Rattle.tree.specs.Descended.{Named, kid-after};
+ghost use Rattle.tree.specs.inner.Descended.{Named, kid-after};
 
 // The child of node k, whose slot word is w, that has j keys before it.
 pub fn child(pool: &[u64], k: u64, w: u64, j: u64) -> u64

@@ -11,7 +11,7 @@ ghost use mathlib.Core.Path.{_≡_};
 ghost use mathlib.Core.Bool.{true};
 ghost use Rattle.words.specs.Tests.{within};
 ghost use Rattle.tree.specs.Header.{form-agrees};
-ghost use Rattle.tree.specs.Descended.{Descended};
+ghost use Rattle.tree.specs.inner.Descended.{Descended};
 
 // The leaf of a key, its slot word, the rank of the key in it, and whether the key is there.
 pub struct Seat {

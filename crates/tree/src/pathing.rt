@@ -6,7 +6,7 @@ use words::Pool;
 ghost use mathlib.Core.Path.{_≡_};
 ghost use mathlib.Core.Bool.{true};
 ghost use Rattle.tree.specs.Header.{form-agrees};
-ghost use Rattle.tree.specs.Descended.{Reaches, Pathed};
+ghost use Rattle.tree.specs.inner.Descended.{Reaches, Pathed};
 
 // The leaf of a key, then the nodes above it, nearest first. Each node on the path is good.
 pub fn path_to(pool: &[u64], key: u64) -> [u64; 8]

@@ -22,7 +22,7 @@ use Rattle.desk.specs.declared.answer.Turn.{Turn}
 use Rattle.desk.specs.Desk as d
 use Rattle.desk.specs.Desk.{desks-most, held, with-desk, may-submit, may-turn, round, choose, accepts}
 use Rattle.desk.specs.Turn.{submit-answer, submit-desks, serve-turn, turn, turn-desks}
-use Rattle.desk.specs.Parts.{noted, chosen}
+use Rattle.desk.specs.inner.Parts.{noted, chosen}
 use Rattle.desk.proofs.Bounds.{may-turn-true, submit-may, looked-bounds}
 use Rattle.desk.proofs.Submits.{place, no-place, some-place}
 use Rattle.desk.proofs.Choose.{Choice, nearest}

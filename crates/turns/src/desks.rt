@@ -17,7 +17,7 @@ use exports::reply::Reply;
 use words::Refusal;
 ghost use mathlib.Core.Path.{_≡_};
 ghost use Rattle.change.specs.declared.Request.the-variants.{Put, Fetch, Delete};
-ghost use Rattle.desk.specs.Parts.{chosen};
+ghost use Rattle.desk.specs.inner.Parts.{chosen};
 ghost use Rattle.desk.specs.Turn.{submit-answer};
 ghost use Rattle.turns.specs.Desks as d;
 ghost use Rattle.turns.specs.Promises.{SubmitPromise, TurnPromise};

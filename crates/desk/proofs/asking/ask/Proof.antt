@@ -15,7 +15,7 @@ use Rattle.desk.specs.Desk.{fresh, with-desk, first-full}
 use Rattle.desk.specs.Turn.{Left, submit-answer, submit-desks, serve-turn, turn}
 use Rattle.desk.specs.Answers.{submit-says, turn-says}
 use Rattle.desk.specs.Promises.{AskPromise}
-use Rattle.desk.specs.Parts.{filled}
+use Rattle.desk.specs.inner.Parts.{filled}
 use Rattle.desk.proofs.Served.{member-is}
 use Rattle.desk.proofs.asking.ask.Statement.{statement}
 use Rattle.desk.proofs.asking.ask.Tie as tie

@@ -6,7 +6,7 @@ use Rattle.change.specs.declared.Request.{Request}
 use Rattle.desk.specs.declared.record.Desk.{Desk}
 use Rattle.desk.specs.declared.record.Desk.the-variants.{Empty, Holding}
 use Rattle.desk.specs.declared.choosing.Chosen.{Chosen}
-use Rattle.desk.specs.Parts.{noted}
+use Rattle.desk.specs.inner.Parts.{noted}
 use Rattle.desk.proofs.choosing.note.Statement.{statement}
 use Rattle.desk.proofs.choosing.note.Tie as tie
 

@@ -30,7 +30,7 @@ use Rattle.words.specs.declared.refusal.Refusal.the-variants.{NoDesk}
 use Rattle.desk.specs.Desk.{fresh}
 use Rattle.desk.specs.Turn.{submit-answer, submit-desks}
 use Rattle.desk.specs.Answers.{submit-says}
-use Rattle.desk.specs.Parts.{filled}
+use Rattle.desk.specs.inner.Parts.{filled}
 use Rattle.desk.proofs.Frames.{all-unset}
 use Rattle.desk.proofs.Submits.{place, refuses, fills}
 use Rattle.words.proofs.refusal.Refusal as F

@@ -23,7 +23,7 @@ use Rattle.desk.proofs.Kit.{walk-meets, yes}
 use Rattle.desk.specs.declared.record.Desk.{Desk}
 use Rattle.desk.specs.Desk.{fresh}
 use Rattle.desk.specs.declared.record.Desk.the-variants.{Empty}
-use Rattle.desk.specs.Parts.{emptied}
+use Rattle.desk.specs.inner.Parts.{emptied}
 use Rattle.desk.proofs.Frames.{all-unset}
 use Rattle.desk.proofs.Submits.{place, stays, empties}
 use Rattle.desk.proofs.record.Desk as D

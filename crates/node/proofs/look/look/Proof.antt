@@ -11,7 +11,7 @@ use lib.Dec.{leb}
 use mir.Val.{boolByte}
 use Rattle.node.specs.Slot.{byte, bytes, entries}
 use Rattle.node.specs.View.{view}
-use Rattle.node.specs.Looked.{Looked}
+use Rattle.node.specs.inner.Looked.{Looked}
 use Rattle.node.proofs.Tests.{bit-le}
 use Rattle.node.proofs.Views.{key-of}
 use Rattle.node.proofs.Walks.{Pass, walk, walk-high, walk-fault, walk-on, walk-end}

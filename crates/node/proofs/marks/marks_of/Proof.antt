@@ -9,7 +9,7 @@ use native.Mathlib.Omega.{arith}
 use lib.Bits.{and-mask}
 use Rattle.node.specs.Lists.{has}
 use Rattle.node.specs.Slot.{bytes}
-use Rattle.node.specs.Marks.{marked}
+use Rattle.node.specs.inner.Marks.{marked}
 use Rattle.node.proofs.Masks.{marked-none, gathers, passes, gathered}
 use Rattle.node.proofs.marks.marks_of.Statement.{statement}
 use Rattle.node.proofs.marks.marks_of.Tie as tie

@@ -2,7 +2,7 @@
 use mathlib.Core.Path.{refl}
 use native.Mathlib.Omega.{arith}
 use borrow.Author.Needs.{needs}
-use Rattle.pool.specs.Splitting.{eight-of}
+use Rattle.pool.specs.inner.Splitting.{eight-of}
 use Rattle.pool.proofs.Eights.{opened-eight}
 use Rattle.pool.proofs.Builds.{upper-length, node-written}
 use Rattle.pool.proofs.building.new_node.Statement.{statement}

@@ -7,7 +7,7 @@ use lib.ListN.{length, drop}
 use borrow.Author.Needs.{needs}
 use Rattle.words.specs.Blocks.{stores}
 use Rattle.change.specs.Steps.{laid}
-use Rattle.pool.specs.Splitting.{eight-of}
+use Rattle.pool.specs.inner.Splitting.{eight-of}
 use Rattle.pool.proofs.Loops.{Left, left-all, left-on, left-none}
 use Rattle.pool.proofs.Eights.{opened-eight}
 use Rattle.pool.proofs.Builds.{upper-turn, upper-end}

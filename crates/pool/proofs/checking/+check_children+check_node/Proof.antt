@@ -9,7 +9,7 @@ use borrow.Fn.PlainCycle.{Measures, is, falls, and}
 use Rattle.words.specs.Event.{at}
 use Rattle.node.specs.Slot.{entries}
 use Rattle.node.specs.View.{slot-at}
-use Rattle.node.specs.Looked.{Inside}
+use Rattle.node.specs.inner.Looked.{Inside}
 use Rattle.node.proofs.layout.link.Reads as link
 use Rattle.node.proofs.layout.record_key.Reads as record-key
 use Rattle.node.proofs.layout.record_value.Reads as record-value
@@ -17,7 +17,7 @@ use Rattle.node.proofs.look.fits.Reads as fits
 use Rattle.node.proofs.slot.count.Reads as count
 use Rattle.node.proofs.slot.name.Reads as name
 use Rattle.words.proofs.limits.Pool.node_at.Reads as node-at
-use Rattle.pool.specs.Checking.{kid-of, kids-left}
+use Rattle.pool.specs.inner.Checking.{kid-of, kids-left}
 use Rattle.pool.proofs.Walks as w
 use Rattle.pool.proofs.Children as ch
 use Rattle.pool.proofs.checking.Kid.next.Reads as next

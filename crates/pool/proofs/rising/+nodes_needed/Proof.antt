@@ -9,7 +9,7 @@ use Rattle.pool.proofs.rising.+nodes_needed.Tie.{close}
 use Rattle.pool.proofs.rising.+nodes_needed.{statement}
 use Rattle.pool.proofs.rising.nodes_needed.Kinds as nodes-needed-kinds
 use Rattle.pool.proofs.rising.nodes_needed.Reads as nodes-needed
-use Rattle.pool.specs.Splitting.{Met}
+use Rattle.pool.specs.inner.Splitting.{Met}
 use Rattle.words.proofs.limits.Pool.node_at.Reads as node-at-reads
 use Rattle.words.specs.Event.{at}
 use borrow.Author.Needs.{needs}

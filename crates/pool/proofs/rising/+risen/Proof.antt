@@ -16,7 +16,7 @@ use Rattle.pool.proofs.rising.risen.Kinds as risen-kinds
 use Rattle.pool.proofs.rising.risen.Reads as risen
 use Rattle.pool.proofs.rising.split_inner.Reads as split-inner-reads
 use Rattle.pool.proofs.rising.taken.Reads as taken-reads
-use Rattle.pool.specs.Splitting.{Met}
+use Rattle.pool.specs.inner.Splitting.{Met}
 use Rattle.words.proofs.limits.Pool.node_at.Reads as node-at-reads
 use Rattle.words.specs.Event.{at}
 use borrow.Author.Needs.{needs}

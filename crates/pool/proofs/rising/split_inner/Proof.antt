@@ -1,7 +1,7 @@
 -- `pool::split_inner` meets its contract: the level by the law `inner-level`.
 use native.Mathlib.Omega.{arith}
 use borrow.Author.Needs.{needs}
-use Rattle.pool.specs.Splitting.{Opened}
+use Rattle.pool.specs.inner.Splitting.{Opened}
 use Rattle.pool.proofs.Eights.{rank-le, opened-in, spot-low}
 use Rattle.pool.proofs.Levels.{stays-few, inner-level}
 use Rattle.pool.proofs.rising.split_inner.Statement.{statement}

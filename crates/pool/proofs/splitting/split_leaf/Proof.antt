@@ -2,7 +2,7 @@
 use native.Mathlib.Omega.{arith}
 use borrow.Author.Needs.{needs}
 use Rattle.change.specs.Steps.{lower}
-use Rattle.pool.specs.Splitting.{Opened, eight-of}
+use Rattle.pool.specs.inner.Splitting.{Opened, eight-of}
 use Rattle.pool.proofs.Eights.{opened-in, opened-eight, rank-le, spot-low}
 use Rattle.pool.proofs.Builds.{node-length}
 use Rattle.pool.proofs.Levels.{stays-few, leaf-level}

@@ -6,7 +6,7 @@ use lib.ListN.{length, getD}
 use borrow.Author.Needs.{needs}
 use Rattle.change.specs.Plan.{Plan}
 use Rattle.change.specs.Put.{split}
-use Rattle.pool.specs.Splitting.{levels}
+use Rattle.pool.specs.inner.Splitting.{levels}
 use Rattle.pool.proofs.Eights.{full-count}
 use Rattle.pool.proofs.Levels.{path-above}
 use Rattle.pool.proofs.Splits.{split-counts, leaf-met, leaf-room, leaf-ready, leaf-done, planned-few}

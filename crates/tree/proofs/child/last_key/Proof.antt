@@ -4,7 +4,7 @@ use mathlib.Core.Path.{_≡_}
 use Prim.Native.Nat.{ℕ, suc}
 use native.Mathlib.Omega.{arith}
 use Rattle.tree.specs.Kids.{kid}
-use Rattle.tree.specs.Descended.{kid-after}
+use Rattle.tree.specs.inner.Descended.{kid-after}
 use Rattle.tree.proofs.Kids.{name-low, last-high, high-at}
 use Rattle.tree.proofs.child.last_key.Statement.{statement}
 use Rattle.tree.proofs.child.last_key.Tie as tie

@@ -7,10 +7,10 @@ use native.Mathlib.Omega.{arith}
 use borrow.Author.Tests.{not-true, not-false}
 use Rattle.words.specs.Tests.{within}
 use Rattle.node.specs.Slot.{count}
-use Rattle.node.specs.Looked.{Inside}
+use Rattle.node.specs.inner.Looked.{Inside}
 use Rattle.node.proofs.Views.{good-sound}
 use Rattle.tree.specs.Header.{used-of, counts-agree}
-use Rattle.tree.specs.Descended.{Named}
+use Rattle.tree.specs.inner.Descended.{Named}
 use Rattle.tree.proofs.Form.{form, counts}
 use Rattle.tree.proofs.Kids.{good-named, few-before}
 use Rattle.tree.proofs.Ways.{inside, On, bad-header, at-root, bad-number, bad-node, too-high, leaf-is, good-node}

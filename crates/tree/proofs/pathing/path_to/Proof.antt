@@ -1,7 +1,7 @@
 -- `tree::path_to` meets its contract: a node a turn.
 use borrow.Author.Needs.{needs}
 use native.Mathlib.Omega.{arith}
-use Rattle.tree.specs.Descended.{Reaches}
+use Rattle.tree.specs.inner.Descended.{Reaches}
 use Rattle.tree.proofs.Form.{form, counts}
 use Rattle.tree.proofs.Kids.{good-named, few-before}
 use Rattle.tree.proofs.Paths.{header-ok, On, at-root, leaf-last, good-here, lies-inside, found-good, go-down}

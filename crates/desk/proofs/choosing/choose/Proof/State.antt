@@ -13,7 +13,7 @@ use Rattle.words.specs.Tests.{if_then_else_}
 use Rattle.desk.specs.declared.record.Desk.{Desk}
 use Rattle.desk.specs.declared.choosing.Chosen.{Chosen}
 use Rattle.desk.specs.Desk.{desks-most, fresh, may-turn, round}
-use Rattle.desk.specs.Parts.{noted, chosen}
+use Rattle.desk.specs.inner.Parts.{noted, chosen}
 use Rattle.desk.proofs.Bounds.{may-turn-true, looked-some}
 use Rattle.desk.proofs.Looking.{looking, row as members, is-member, one-more}
 use Rattle.desk.proofs.choosing.Chosen as P

@@ -32,7 +32,7 @@ use Rattle.desk.specs.declared.record.Desk.{Desk}
 use Rattle.desk.specs.declared.record.Desk.the-variants.{Empty}
 use Rattle.desk.specs.declared.choosing.Chosen.{Chosen}
 use Rattle.desk.specs.Desk.{desks-most, fresh, round}
-use Rattle.desk.specs.Parts.{noted, chosen}
+use Rattle.desk.specs.inner.Parts.{noted, chosen}
 use Rattle.desk.proofs.Frames.{unset, holds, all-unset}
 use Rattle.desk.proofs.Looking.{nobody, all-looked, at-end}
 use Rattle.desk.proofs.record.Desk as D

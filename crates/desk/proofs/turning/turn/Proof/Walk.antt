@@ -21,7 +21,7 @@ use Rattle.desk.specs.declared.answer.Turn.{Turn}
 use Rattle.desk.specs.Turn as t
 use Rattle.desk.specs.Turn.{serve-turn}
 use Rattle.desk.specs.Answers.{turn-says}
-use Rattle.desk.specs.Parts.{chosen, emptied}
+use Rattle.desk.specs.inner.Parts.{chosen, emptied}
 use Rattle.desk.proofs.Frames.{all-unset}
 use Rattle.desk.proofs.Again.{LentAgain, lends-again, comes-back}
 use Rattle.desk.proofs.Turns.{leaves}

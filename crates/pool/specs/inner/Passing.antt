@@ -5,7 +5,7 @@ use mathlib.Core.List.{List}
 use mathlib.Core.Bool.{true}
 use Rattle.tree.specs.Header.{commit-of, form-agrees}
 use Rattle.tree.specs.Path.{way-to}
-use Rattle.tree.specs.Descended.{Seated}
+use Rattle.tree.specs.inner.Descended.{Seated}
 use Rattle.tree.specs.declared.descend.Seat.{Seat}
 use Rattle.change.specs.declared.Outcome.{Outcome}
 use Rattle.change.specs.Gate.{Planned, refused, past-gate, at-leaf}

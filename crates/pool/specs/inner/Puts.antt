@@ -7,13 +7,13 @@ use Rattle.words.specs.Written.{Wrote}
 use Rattle.node.specs.Slot.{count, names, entries}
 use Rattle.node.specs.View.{Record, View}
 use Rattle.tree.specs.Path.{way-to}
-use Rattle.tree.specs.Descended.{above-of}
+use Rattle.tree.specs.inner.Descended.{above-of}
 use Rattle.tree.specs.declared.descend.Seat.{Seat}
 use Rattle.change.specs.declared.Outcome.{Outcome}
 use Rattle.change.specs.Gate.{Planned}
 use Rattle.change.specs.Steps.{rank}
 use Rattle.change.specs.Put.{replace-events, fill-events, put-at}
-use Rattle.pool.specs.Passing.{Admitted}
+use Rattle.pool.specs.inner.Passing.{Admitted}
 
 -- a leaf that says u has the slot word w, and a key its place there
 pub record Says (u : View) (w key place : ℕ) : Type 0 where

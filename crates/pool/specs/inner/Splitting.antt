@@ -13,7 +13,7 @@ use Rattle.words.specs.Written.{Wrote}
 use Rattle.node.specs.Lists.{insert}
 use Rattle.node.specs.Slot.{bytes, names, spot}
 use Rattle.node.specs.View.{Record, view, good, no-end, slot-at, link-at}
-use Rattle.node.specs.Looked.{Inside}
+use Rattle.node.specs.inner.Looked.{Inside}
 use Rattle.tree.specs.Header.{capacity-of, used-of, root-of, height-of, form-agrees, counts-agree}
 use Rattle.tree.specs.Kids.{leaf-least}
 use Rattle.tree.specs.Lists.{Each}

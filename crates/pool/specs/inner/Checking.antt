@@ -10,7 +10,7 @@ use Rattle.words.specs.Event.{at}
 use Rattle.node.specs.Lists.{all-below}
 use Rattle.node.specs.Slot.{byte, count, names, entries}
 use Rattle.node.specs.View.{view, slot-at}
-use Rattle.node.specs.Looked.{end-of}
+use Rattle.node.specs.inner.Looked.{end-of}
 use Rattle.tree.specs.Header.{capacity-of, used-of, form-agrees, counts-agree}
 use Rattle.tree.specs.Lists.{occ}
 use Rattle.tree.specs.Kids as k

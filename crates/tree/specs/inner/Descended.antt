@@ -8,7 +8,7 @@ use Rattle.words.specs.Event.{at}
 use Rattle.node.specs.Lists.{has, below, all-below}
 use Rattle.node.specs.Slot.{count, names, entries}
 use Rattle.node.specs.View.{view, keys, slot-at}
-use Rattle.node.specs.Looked.{Inside}
+use Rattle.node.specs.inner.Looked.{Inside}
 use Rattle.tree.specs.declared.descend.Seat.{Seat}
 use Rattle.tree.specs.declared.descend.Descent.{Descent}
 use Rattle.tree.specs.declared.descend.Descent.the-variants.{Fault, Leaf}
