@@ -37,3 +37,4 @@ pub mod ConditionsChild
 pub mod ConditionsPath
 pub mod ConditionsRoom
 pub mod ConditionsCalls
+pub mod Slips

@@ -24,3 +24,4 @@ pub mod Tight
 pub mod OurPools
 pub mod Instance
 pub mod Refused
+pub mod Slips

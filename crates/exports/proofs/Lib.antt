@@ -1,2 +1,3 @@
 -- Each exported call allows one outcome.
 pub mod Tight
+pub mod Slips

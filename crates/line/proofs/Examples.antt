@@ -1,10 +1,12 @@
 -- Document 01's example of the program, and lines that are bad, each computed.
 use mathlib.Core.Path.{_≡_, refl}
-use mathlib.Core.List.{[], _∷_}
+use mathlib.Core.List.{[], _∷_, _++_}
+use lib.ListN.{replicate}
 use Rattle.words.specs.Lists.{same}
 use Rattle.change.specs.declared.Request.the-variants.{Put, Fetch, Delete}
 use Rattle.change.specs.declared.Outcome.the-variants.{New, Absent, Found}
 use Rattle.line.specs.declared.parsing.Line.the-variants.{Ask, Bad}
+use Rattle.line.specs.Taken.{fresh, lines-come}
 use Rattle.line.specs.Line.{meaning, parts, number-of, read, digits, digits-in, text}
 
 -- "put 7 70"
@@ -71,3 +73,12 @@ pub too-large : meaning
     ≡ Bad
 unfolding meaning parts same number-of read
 too-large = refl
+
+-- get and 61 zeroes, 65 bytes: the first 64 alone would ask for key 0
+pub too-long : lines-come fresh ((103 ∷ 101 ∷ 116 ∷ 32 ∷ []) ++ replicate 61 48) ≡ Bad ∷ []
+unfolding lines-come
+too-long = refl
+
+pub not-too-long : lines-come fresh ((103 ∷ 101 ∷ 116 ∷ 32 ∷ []) ++ replicate 60 48) ≡ Ask (Fetch 0) ∷ []
+unfolding lines-come meaning parts same number-of read
+not-too-long = refl

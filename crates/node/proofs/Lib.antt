@@ -14,3 +14,4 @@ pub mod Passes
 pub mod Walks
 pub mod Ends
 pub mod Vectors
+pub mod Slips

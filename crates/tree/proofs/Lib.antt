@@ -27,3 +27,4 @@ pub mod Marks
 pub mod Walked
 pub mod Checked
 pub mod Visits
+pub mod Slips

@@ -1,2 +1,3 @@
 pub mod Records
 pub mod Tight
+pub mod Slips

@@ -19,4 +19,5 @@ pub mod Logged
 pub mod Values
 pub mod AllCuts
 pub mod Wrong
+pub mod Slips
 pub mod Tight
