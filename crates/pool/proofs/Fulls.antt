@@ -26,8 +26,8 @@ use Rattle.change.specs.Steps.{full}
 use Rattle.change.specs.Plan.{plan-events}
 use Rattle.change.specs.Put.{needed, split, put-at}
 use Rattle.pool.specs.inner.Puts.{Full, put-there}
-use Rattle.pool.specs.inner.Splitting.{Met, ToSplit}
-use Rattle.pool.proofs.Meets.{way-to-met}
+use Rattle.split.specs.inner.Splitting.{Met, ToSplit}
+use Rattle.split.proofs.Meets.{way-to-met}
 
 -- a path of a leaf and the nodes above it
 path-is : (path : List ℕ) (n k : ℕ) → length path ≡ 8 → getD path 0 0 ≡ k → take (suc n) path ≡ k ∷ take n (drop 1 path)

@@ -21,7 +21,7 @@ use Rattle.change.specs.Gate.{quiet, past-form}
 use Rattle.change.specs.Plan.{log-finished}
 use Rattle.change.specs.Recover.{log-pairs, may-store, all-may-store, log-agrees, refuse, recover-past-form, recover}
 use Rattle.change.proofs.Recover.{log-says}
-use Rattle.pool.specs.inner.Splitting.{Near}
+use Rattle.split.specs.inner.Splitting.{Near}
 use Rattle.pool.proofs.Gates.{short-list, long-list, no-pool, a-pool}
 
 -- a pair's address

@@ -2,5 +2,3 @@
 pub mod Formatting
 pub mod Passing
 pub mod Puts
-pub mod Splitting
-pub mod Checking

@@ -1,9 +1,9 @@
 // A put into a full leaf: refused for want of room or of levels, or split.
 use crate::answers::quiet;
-use crate::rising::nodes_needed;
-use crate::splitting::split_put;
 use change::Answer;
 use change::Outcome;
+use split::rising::nodes_needed;
+use split::splitting::split_put;
 use tree::descend::Seat;
 use tree::pathing::path_to;
 use words::Pool;

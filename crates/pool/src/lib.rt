@@ -1,20 +1,15 @@
 // The calls on one pool, a module each.
 mod answers;
-mod building;
 mod checking;
 mod crowded;
 mod deleting;
 mod fetching;
 mod formatting;
 mod gate;
-mod logging;
 mod most;
-mod opening;
 mod putting;
 mod recovering;
-mod rising;
 mod serving;
-mod splitting;
 
 pub use checking::check;
 pub use deleting::delete;

@@ -1,6 +1,6 @@
 // Recover: an unfinished change is done again from the log.
-use crate::logging::finish_log;
 use change::Recovery;
+use split::logging::finish_log;
 use tree::header::form_agrees;
 use words::Pool;
 use words::Refusal;

@@ -8,7 +8,7 @@ use lib.ListN.{length}
 use Rattle.words.specs.Pool.{words-least}
 use Rattle.tree.specs.Header.{form-agrees}
 use Rattle.tree.proofs.Form.{form}
-use Rattle.pool.proofs.Checks.{examined, check-no-pool, check-unfinished, check-short, check-damaged, check-walked}
+use Rattle.walk.proofs.Checks.{examined, check-no-pool, check-unfinished, check-short, check-damaged, check-walked}
 use Rattle.pool.proofs.checking.check.Statement.{statement}
 use Rattle.pool.proofs.checking.check.Tie as tie
 

@@ -1,0 +1,2 @@
+-- What the functions of the walk ask and answer. The prover holds the code to it; no promise and no demand speaks of it.
+pub mod Checking
