@@ -24,7 +24,7 @@ use Rattle.node.proofs.Places.{length-insert, map-take}
 use Rattle.node.proofs.Every.{below-insert, below-take}
 use Rattle.node.proofs.Sets.{different-insert, different-take}
 use Rattle.node.proofs.Ranks.{below-length}
-use Rattle.node.proofs.Spots.{lowest-below, lowest-new}
+use Rattle.node.proofs.Spots.{spot-below, spot-unused}
 use Rattle.node.proofs.Views.{map-same}
 use Rattle.tree.proofs.Lists.{each-right}
 use Rattle.tree.proofs.Fits.{Named, Says}
@@ -60,10 +60,10 @@ module _ (m m′ : List ℕ) (k : ℕ) (n : Named (view m k)) (r : Record) (full
   three = length-take-le 3 ns (omega arith)
 
   e-small : staying-spot (view m k) < entries
-  e-small = lowest-below entries (take 3 ns) (omega (arith, three))
+  e-small = spot-below (take 3 ns) (omega (arith, three))
 
   e-new : has (staying-spot (view m k)) (take 3 (view m k .named)) ≡ false
-  e-new = lowest-new entries (take 3 ns) (omega (arith, three))
+  e-new = spot-unused (take 3 ns) (omega (arith, three))
 
   small-three : all-below entries (take 3 (view m k .named)) ≡ true
   small-three = below-take entries 3 ns (n .small)

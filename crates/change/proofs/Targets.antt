@@ -13,7 +13,7 @@ use Rattle.words.specs.Blocks.{Pair}
 use Rattle.words.proofs.Blocks.{Off}
 use Rattle.node.specs.Slot.{entries}
 use Rattle.node.specs.View.{Record, View, view, slot-at, link-at, key-at, value-at}
-use Rattle.node.proofs.Spots.{lowest-below}
+use Rattle.node.proofs.Spots.{spot-below}
 use Rattle.tree.specs.Header.{used-of, root-of}
 use Rattle.tree.specs.Lists.{occ}
 use Rattle.tree.specs.WellFormed.{WellFormed}
@@ -114,7 +114,7 @@ module _ (k : ℕ) (u : View) (r : Record) {ws : List Pair} (l : OfLink k ws) wh
 
   high-in : Within High (entry-pairs k e r)
   high-in =
-      let h : e < entries = lowest-below entries (take 3 (u .named)) (rw length-take (omega arith)) in
+      let h : e < entries = spot-below (take 3 (u .named)) (rw length-take (omega arith)) in
       ((omega arith, omega arith), ((omega arith, omega arith), tt))
 
   pub stay-in : Within (InNode k) (staying-pairs k u r ws)
