@@ -15,13 +15,13 @@ use Rattle.words.proofs.Found.{cut-quiet, found-quiet}
 use Rattle.words.proofs.Commit.{Prepares, prepares-none, prepares-fence}
 use Rattle.node.specs.Lists.{has}
 use Rattle.node.specs.Slot.{entries}
-use Rattle.node.specs.View.{View, view, keys, slot-at, value-at}
+use Rattle.node.specs.View.{View, view, keys, rank, slot-at, value-at}
 use Rattle.node.proofs.Spots.{spot-below, spot-unused}
 use Rattle.tree.specs.Header.{total-in}
 use Rattle.tree.specs.WellFormed.{WellFormed}
 use Rattle.tree.specs.inner.Reads.{Reads}
 use Rattle.tree.proofs.Way.{Reached}
-use Rattle.change.specs.Steps.{rank, entry-pairs, taken-slot, fill-spot, removed-slot}
+use Rattle.change.specs.Steps.{entry-pairs, taken-slot, fill-spot, removed-slot}
 use Rattle.change.specs.Put.{replace-events, fill-events}
 use Rattle.change.specs.Recover.{recovery}
 use Rattle.change.proofs.Nodes.{InNode}

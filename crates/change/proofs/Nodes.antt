@@ -15,15 +15,16 @@ use Rattle.words.proofs.Tests.{both, differ}
 use Rattle.words.proofs.Blocks.{Off}
 use Rattle.node.specs.Lists.{insert, remove, has, all-below, different}
 use Rattle.node.specs.Slot.{byte, names, slot, entries}
-use Rattle.node.specs.View.{Record, View, view, entry, keys, slot-at, link-at, key-at, value-at}
+use Rattle.node.specs.View.{Record, View, view, entry, keys, rank, slot-at, link-at, key-at, value-at}
 use Rattle.node.proofs.Slots.{names-slot, length-names}
 use Rattle.node.proofs.Places.{length-insert, length-remove, map-insert, map-remove, insert-remove}
 use Rattle.node.proofs.Every.{below-insert, below-remove, below-at, below-every, every-has}
 use Rattle.node.proofs.Sets.{different-insert, different-remove, has-remove}
 use Rattle.node.proofs.Spots.{spot-below, spot-unused}
 use Rattle.node.proofs.Views.{view-words, view-names, record-at, map-same}
+use Rattle.tree.specs.Halves.{eight}
 use Rattle.tree.proofs.Fits.{Named, Says, says}
-use Rattle.change.specs.Steps.{rank, entry-pairs, taken-slot, parent-spot, eight}
+use Rattle.change.specs.Steps.{entry-pairs, taken-slot, parent-spot}
 use Rattle.change.proofs.Pairs.{Within, Between, Stands, Apart}
 
 -- word w is one of node k's

@@ -10,7 +10,7 @@ use borrow.Author.Tests.{eqb-true, eq-eqb, ne-eqb, lt-ltb, le-leb}
 use Rattle.words.specs.Event.{at}
 use Rattle.node.specs.Lists.{insert, all-below, covered}
 use Rattle.node.specs.Slot.{bytes, names, count, entries, slot, spot}
-use Rattle.node.specs.View.{Record, view, keys, entry, slot-at, key-at, good, no-end}
+use Rattle.node.specs.View.{Record, view, keys, rank, entry, slot-at, key-at, good, no-end}
 use Rattle.node.specs.inner.Looked.{Inside}
 use Rattle.node.proofs.Digits.{bytes-take}
 use Rattle.node.proofs.Places.{length-insert, getD-insert}
@@ -20,7 +20,8 @@ use Rattle.node.proofs.Slots.{length-names}
 use Rattle.node.proofs.Spots.{spot-below}
 use Rattle.node.proofs.Views.{key-of, Good, good-parts, parts-good, view-names, view-keys, view-length}
 use Rattle.tree.specs.Kids.{leaf-least}
-use Rattle.change.specs.Steps.{rank, full, lower, lower-slot}
+use Rattle.tree.specs.Halves.{lower}
+use Rattle.change.specs.Steps.{full, lower-slot}
 use Rattle.change.proofs.Counts.{length-eight}
 use Rattle.pool.specs.declared.opening.Eight.{Eight}
 use Rattle.pool.specs.inner.Splitting.{Met, Named, Opened, new-of, eight-of}
