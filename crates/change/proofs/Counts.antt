@@ -4,7 +4,7 @@ use mathlib.Core.Path.{_≡_, refl, ap}
 use mathlib.Core.List.{List, [], _∷_, _++_}
 use mathlib.Core.Bool.{Bool, true, false}
 use native.Mathlib.Omega.{arith}
-use lib.ListN.{length, drop, length-append, length-drop}
+use lib.ListN.{length, length-append, length-drop}
 use lib.Dec.{ltb}
 use borrow.Author.Tests.{eqb-true}
 use Rattle.words.specs.Tests.{if_then_else_}
@@ -13,15 +13,16 @@ use Rattle.words.specs.Blocks.{Pair, lines, stored}
 use Rattle.words.proofs.Tests.{at-most-one}
 use Rattle.words.proofs.Blocks.{length-replay}
 use Rattle.node.specs.Slot.{entries}
-use Rattle.node.specs.View.{Record, View, view, slot-at, link-at}
-use Rattle.node.proofs.Places.{length-insert}
-use Rattle.tree.specs.Header.{root-of}
+use Rattle.node.specs.View.{Record, View, view, rank, slot-at, link-at}
+use Rattle.tree.specs.Header.{used-of, root-of}
+use Rattle.tree.specs.Halves.{eight, lower, upper-four, fifth, upper-three, supply, used-with}
 use Rattle.tree.proofs.Fits.{view-sized}
-use Rattle.change.specs.Steps.{rank, full, entry-pairs, taken-slot, parent-spot, new-node, lower, eight, fifth, staying-pairs}
+use Rattle.tree.proofs.Eight.{eight-more}
+use Rattle.change.specs.Steps.{full, entry-pairs, taken-slot, parent-spot, new-node, staying-pairs}
 use Rattle.change.specs.Plan.{Plan, new-nodes, log-written, log-replayed, log-finished, log-events, plan-events}
 use Rattle.change.specs.Format.{format-events}
 use Rattle.change.specs.Recover.{log-pairs}
-use Rattle.change.specs.Put.{supply, used-with, rise, split, needed}
+use Rattle.change.specs.Put.{rise, split, needed}
 use Rattle.change.specs.Most.{most, split-levels, new-roots, Counted}
 use Rattle.change.proofs.Lines.{node-events, log-stored}
 
@@ -55,7 +56,7 @@ pub length-eight : (m : List ℕ) (k : ℕ) (r : Record) → full (view m k) ≡
 length-eight m k r t =
     omega (
       arith,
-      length-insert (rank (view m k) (r .0)) r (view m k .records),
+      eight-more (view m k) r,
       eqb-true (length (view m k .named)) entries t,
       view-sized m k,
     )
@@ -99,13 +100,13 @@ module _ (m : List ℕ) (k : ℕ) (above : List ℕ) where
 
   module _ (up : Record) (i : ℕ) where
     abbrev rest : Plan
-    rest = rise m above (fifth (view m k) up .0, supply m i) (i + 1)
+    rest = rise m above (fifth (view m k) up .0, supply (used-of m) i) (i + 1)
 
     abbrev over : List Record
-    over = drop (lower + 1) (eight (view m k) up)
+    over = upper-three (view m k) up
 
     rise-full : full (view m k) ≡ true → rise m (k ∷ above) up i ≡ record {
-      nodes = new-node (supply m i) (fifth (view m k) up .1) over ∷ rest .nodes;
+      nodes = new-node (supply (used-of m) i) (fifth (view m k) up .1) over ∷ rest .nodes;
       pairs = staying-pairs k (view m k) up [] ++ rest .pairs;
     }
     unfolding rise
@@ -114,7 +115,7 @@ module _ (m : List ℕ) (k : ℕ) (above : List ℕ) where
     rise-room : full (view m k) ≡ false → rise m (k ∷ above) up i ≡ record {
       nodes = [];
       pairs = entry-pairs k (parent-spot (view m k)) up
-          ++ ((slot-at k, taken-slot (view m k) (up .0) (parent-spot (view m k))) ∷ (used-at, used-with m i) ∷ []);
+          ++ ((slot-at k, taken-slot (view m k) (up .0) (parent-spot (view m k))) ∷ (used-at, used-with (used-of m) i) ∷ []);
     }
     unfolding rise
     rise-room t = rw t
@@ -145,12 +146,13 @@ risen m [] up i = top
       one = omega arith;
       need = refl;
       nodes = refl;
-      made = rw (length-append, node-events (supply m i) (root-of m) (up ∷ []));
+      made = rw (length-append, node-events (supply (used-of m) i) (root-of m) (up ∷ []));
       pairs = refl;
     })
-risen m (k ∷ above) up i = go (risen m above (fifth (view m k) up .0, supply m i) (i + 1)) (full (view m k)) refl
+risen m (k ∷ above) up i = go (risen m above (fifth (view m k) up .0, supply (used-of m) i) (i + 1)) (full (view m k)) refl
   where
-    go : Risen m above (fifth (view m k) up .0, supply m i) (i + 1) → (b : Bool) → full (view m k) ≡ b → Risen m (k ∷ above) up i
+    go : Risen m above (fifth (view m k) up .0, supply (used-of m) i) (i + 1) → (b : Bool) → full (view m k) ≡ b
+        → Risen m (k ∷ above) up i
     go x true t = record {
       staying = stays (view m k) up + x .staying;
       root = x .root;
@@ -163,9 +165,10 @@ risen m (k ∷ above) up i = go (risen m above (fifth (view m k) up .0, supply m
           (omega (arith, x .pairs));
     }
       where
-        events : length (new-nodes (new-node (supply m i) (fifth (view m k) up .1) (over m k above up i) ∷ rest m k above up i .nodes))
+        events : length (new-nodes
+            (new-node (supply (used-of m) i) (fifth (view m k) up .1) (over m k above up i) ∷ rest m k above up i .nodes))
             ≡ 9 * suc (split-levels m above) + 5 * x .root
-        events = rw (length-new, node-events (supply m i) (fifth (view m k) up .1) (over m k above up i))
+        events = rw (length-new, node-events (supply (used-of m) i) (fifth (view m k) up .1) (over m k above up i))
             (omega (arith, x .made, length-drop (lower + 1) (eight (view m k) up), length-eight m k up t))
     go x false t = record {
       staying = 0;
@@ -180,7 +183,7 @@ risen m (k ∷ above) up i = go (risen m above (fifth (view m k) up .0, supply m
 
 module _ (m : List ℕ) (k : ℕ) (above : List ℕ) (r : Record) (t : full (view m k) ≡ true) where
   abbrev up : Record
-  up = (fifth (view m k) r .0, supply m 0)
+  up = (fifth (view m k) r .0, supply (used-of m) 0)
 
   below : Risen m above up 1
   below = risen m above up 1
@@ -191,7 +194,7 @@ module _ (m : List ℕ) (k : ℕ) (above : List ℕ) (r : Record) (t : full (vie
   pairs : length (split m k above r .pairs) + below .root ≡ split-levels m (k ∷ above) + 2 * s + 5
   unfolding split
   pairs =
-      rw (levels-full m k above t, length-append, length-staying k (view m k) r ((link-at k, supply m 0) ∷ []))
+      rw (levels-full m k above t, length-append, length-staying k (view m k) r ((link-at k, supply (used-of m) 0) ∷ []))
       (omega (arith, below .pairs))
 
   nodes : length (split m k above r .nodes) ≡ needed m (k ∷ above)
@@ -201,7 +204,7 @@ module _ (m : List ℕ) (k : ℕ) (above : List ℕ) (r : Record) (t : full (vie
   made : length (new-nodes (split m k above r .nodes)) ≡ 9 * split-levels m (k ∷ above) + 3 + 5 * below .root
   unfolding split
   made =
-      rw (levels-full m k above t, length-new, node-events (supply m 0) (view m k .link) (drop lower (eight (view m k) r)))
+      rw (levels-full m k above t, length-new, node-events (supply (used-of m) 0) (view m k .link) (upper-four (view m k) r))
       (omega (arith, below .made, length-drop lower (eight (view m k) r), length-eight m k r t))
 
   root-is : below .root ≡ new-roots m (k ∷ above)

@@ -1,5 +1,5 @@
 -- What the two nodes of a split say once their words were stored: the one that keeps the lower four, and the new one.
-use Prim.Native.Nat.{ℕ, zero, suc, _+_, _≤_, _<_}
+use Prim.Native.Nat.{ℕ, zero, suc, _+_, _-_, _≤_, _<_}
 use mathlib.Core.Path.{_≡_, refl, sym, _∙_, ap}
 use mathlib.Core.Logic.{⊎-elim}
 use mathlib.Core.List.{List, [], _∷_, _++_, map}
@@ -17,18 +17,19 @@ use Rattle.words.proofs.Blocks.{Off}
 use Rattle.words.proofs.Lists.{length-from}
 use Rattle.node.specs.Lists.{insert, has, all-below, different}
 use Rattle.node.specs.Slot.{entries, slot}
-use Rattle.node.specs.View.{Record, View, view, entry, keys, slot-at, link-at, key-at, value-at}
+use Rattle.node.specs.View.{Record, View, view, entry, keys, rank, slot-at, link-at, key-at, value-at}
 use Rattle.node.proofs.Digits.{bytes-take}
 use Rattle.node.proofs.Slots.{rising-bytes}
 use Rattle.node.proofs.Places.{length-insert, map-take}
 use Rattle.node.proofs.Every.{below-insert, below-take}
 use Rattle.node.proofs.Sets.{different-insert, different-take}
 use Rattle.node.proofs.Ranks.{below-length}
-use Rattle.node.proofs.Spots.{lowest-below, lowest-new}
+use Rattle.node.proofs.Spots.{spot-below, spot-unused}
 use Rattle.node.proofs.Views.{map-same}
+use Rattle.tree.specs.Halves.{lower, lower-four}
 use Rattle.tree.proofs.Lists.{each-right}
 use Rattle.tree.proofs.Fits.{Named, Says}
-use Rattle.change.specs.Steps.{rank, entry-pairs, laid, new-node, lower, eight, staying-spot, lower-slot, staying-pairs}
+use Rattle.change.specs.Steps.{entry-pairs, laid, new-node, staying-spot, lower-slot, staying-pairs}
 use Rattle.change.proofs.Pairs.{Stand, Stands, off-append}
 use Rattle.change.proofs.Nodes.{Became, entered, entry-still, link-still, name-small, slot-says}
 
@@ -56,17 +57,21 @@ module _ (m m′ : List ℕ) (k : ℕ) (n : Named (view m k)) (r : Record) (full
   abbrev i : ℕ
   i = rank u (r .0)
 
-  three : length (take 3 ns) ≡ 3
-  three = length-take-le 3 ns (omega arith)
+  -- so many names are kept where the new record stays
+  abbrev kept : ℕ
+  kept = lower - 1
+
+  kept-length : length (take kept ns) ≡ kept
+  kept-length = length-take-le kept ns (omega arith)
 
   e-small : staying-spot (view m k) < entries
-  e-small = lowest-below entries (take 3 ns) (omega (arith, three))
+  e-small = spot-below (take kept ns) (omega (arith, kept-length))
 
-  e-new : has (staying-spot (view m k)) (take 3 (view m k .named)) ≡ false
-  e-new = lowest-new entries (take 3 ns) (omega (arith, three))
+  e-new : has (staying-spot (view m k)) (take kept (view m k .named)) ≡ false
+  e-new = spot-unused (take kept ns) (omega (arith, kept-length))
 
-  small-three : all-below entries (take 3 (view m k .named)) ≡ true
-  small-three = below-take entries 3 ns (n .small)
+  kept-small : all-below entries (take kept (view m k .named)) ≡ true
+  kept-small = below-take entries kept ns (n .small)
 
   -- with pairs ws that are for word 1 alone, which comes to be the link
   module _ (ws : List Pair) (link : ℕ) (other : (w : ℕ) → (w ≡ link-at k → ⊥) → Off ws w) (l : at m′ (link-at k) ≡ link) where
@@ -77,49 +82,49 @@ module _ (m m′ : List ℕ) (k : ℕ) (n : Named (view m k)) (r : Record) (full
     off w p q = off-append w ws (last ∷ []) (other w p) (⊎-elim q absurd)
 
     -- the new record is one of the lower four
-    stays-in : i < lower → Became m m′ k (entry-pairs k e r ++ (ws ++ (last ∷ []))) → Says (view m′) k link (take lower (eight u r))
+    stays-in : i < lower → Became m m′ k (entry-pairs k e r ++ (ws ++ (last ∷ []))) → Says (view m′) k link (lower-four u r)
     unfolding view
     stays-in h b =
-        let lowest : take lower (insert i e ns) ≡ insert i e (take 3 ns) = take-within i 3 e ns (omega arith) in
-        slot-says m′ (insert i e (take 3 ns)) (each-right (Stand m′) ws (last ∷ []) (b .stands .1 .1) .0 ∙ ap slot lowest) l
-        (entered m m′ k i e (take 3 ns) r e-new small-three (rw (b .stands .0, b .stands .1 .0))
+        let firsts : take lower (insert i e ns) ≡ insert i e (take kept ns) = take-within i kept e ns (omega arith) in
+        slot-says m′ (insert i e (take kept ns)) (each-right (Stand m′) ws (last ∷ []) (b .stands .1 .1) .0 ∙ ap slot firsts) l
+        (entered m m′ k i e (take kept ns) r e-new kept-small (rw (b .stands .0, b .stands .1 .0))
         (λ x p q. entry-still b x p (⊎-elim (omega arith) (⊎-elim (omega arith) (off (key-at k x) (omega arith) (omega arith))))
         (⊎-elim (omega arith) (⊎-elim (omega arith) (off (value-at k x) (omega arith) (omega arith)))))
-        ∙ ap (insert i r) (map-take (entry m k) 3 ns) ∙ sym (take-within i 3 r (u .records) (omega arith)))
-        (rw length-insert (omega (arith, three))) (rw (below-insert entries i e (take 3 ns), lt-ltb e entries e-small) small-three)
-        (rw (different-insert i e (take 3 ns), e-new) (different-take 3 ns (n .apart)))
+        ∙ ap (insert i r) (map-take (entry m k) kept ns) ∙ sym (take-within i kept r (u .records) (omega arith)))
+        (rw length-insert (omega (arith, kept-length))) (rw (below-insert entries i e (take kept ns), lt-ltb e entries e-small) kept-small)
+        (rw (different-insert i e (take kept ns), e-new) (different-take kept ns (n .apart)))
 
     -- it goes over
-    stays-out : lower ≤ i → Became m m′ k (ws ++ (last ∷ [])) → Says (view m′) k link (take lower (eight u r))
+    stays-out : lower ≤ i → Became m m′ k (ws ++ (last ∷ [])) → Says (view m′) k link (lower-four u r)
     unfolding view
     stays-out h b =
         let most : i ≤ length (u .records) =
         omega (arith, below-length (r .0) (keys (u .records)), length-map (u .records) (λ (q : Record). q .0)) in
-        let lowest : take lower (insert i e ns) ≡ take lower ns = take-before lower i e ns h (omega (arith, length-map ns (entry m k))) in
+        let firsts : take lower (insert i e ns) ≡ take lower ns = take-before lower i e ns h (omega (arith, length-map ns (entry m k))) in
         let small = below-take entries lower ns (n .small) in
-        slot-says m′ (take lower ns) (each-right (Stand m′) ws (last ∷ []) (b .stands) .0 ∙ ap slot lowest) l
+        slot-says m′ (take lower ns) (each-right (Stand m′) ws (last ∷ []) (b .stands) .0 ∙ ap slot firsts) l
         (map-same (entry m′ k) (entry m k) (take lower ns) (λ x g. let q = name-small x (take lower ns) small g in
         entry-still b x q (off (key-at k x) (omega arith) (omega arith)) (off (value-at k x) (omega arith) (omega arith)))
         ∙ map-take (entry m k) lower ns ∙ sym (take-before lower i r (u .records) h most))
         (rw (length-take-le lower ns (omega arith)) (omega arith)) small (different-take lower ns (n .apart))
 
-    stays : Became m m′ k (staying-pairs k u r ws) → Says (view m′) k link (take lower (eight u r))
+    stays : Became m m′ k (staying-pairs k u r ws) → Says (view m′) k link (lower-four u r)
     unfolding staying-pairs
     stays b = go (ltb i lower) refl
       where
-        go : (t : Bool) → ltb i lower ≡ t → Says (view m′) k link (take lower (eight u r))
+        go : (t : Bool) → ltb i lower ≡ t → Says (view m′) k link (lower-four u r)
         go true t = stays-in (ltb-true i lower t) (rw t at b)
         go false t = stays-out (ltb-false i lower t) (rw t at b)
 
   -- a leaf, whose link is stored too, and an inner node, whose leftmost child stays
   pub leaf-stays : (link : ℕ) → Became m m′ k (staying-pairs k u r ((link-at k, link) ∷ []))
-      → Says (view m′) k link (take lower (eight u r))
+      → Says (view m′) k link (lower-four u r)
   unfolding staying-pairs
   leaf-stays link b =
       stays ((link-at k, link) ∷ []) link (λ w p. ⊎-elim (λ q. p (sym q)) absurd)
       (each-right (Stand m′) (if ltb i lower then entry-pairs k e r else []) _ (b .stands) .0) b
 
-  pub inner-stays : Became m m′ k (staying-pairs k u r []) → Says (view m′) k (u .link) (take lower (eight u r))
+  pub inner-stays : Became m m′ k (staying-pairs k u r []) → Says (view m′) k (u .link) (lower-four u r)
   unfolding staying-pairs
   inner-stays b = stays [] (u .link) (λ w p. absurd) (link-still b (go (ltb i lower) refl)) b
     where

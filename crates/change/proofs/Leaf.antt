@@ -13,7 +13,7 @@ use Rattle.words.proofs.Events.{run-append, length-run, run-off}
 use Rattle.words.proofs.Blocks.{stores-stores, run-stored}
 use Rattle.node.specs.Lists.{has}
 use Rattle.node.specs.Slot.{entries}
-use Rattle.node.specs.View.{Record, View, view, keys, slot-at, value-at}
+use Rattle.node.specs.View.{Record, View, view, keys, rank, slot-at, value-at}
 use Rattle.node.proofs.Every.{below-at}
 use Rattle.node.proofs.Ranks.{found-at}
 use Rattle.tree.specs.Header.{total-in, capacity-of, used-of}
@@ -27,7 +27,7 @@ use Rattle.tree.proofs.Frame.{whole-named}
 use Rattle.tree.proofs.Along.{along-range}
 use Rattle.tree.proofs.Way.{Reached}
 use Rattle.tree.proofs.After.{After, Elsewhere, put-after, replace-after, delete-after}
-use Rattle.change.specs.Steps.{rank, entry-pairs, taken-slot, fill-spot, removed-slot}
+use Rattle.change.specs.Steps.{entry-pairs, taken-slot, fill-spot, removed-slot}
 use Rattle.change.specs.Put.{replace-events, fill-events}
 use Rattle.change.proofs.Pairs.{Within, Apart, within-at, within-weaken, stores-stand}
 use Rattle.change.proofs.Goes.{Goes, AllGo, once-goes, stored-goes}

@@ -15,13 +15,13 @@ use Rattle.words.proofs.Found.{cut-quiet, found-quiet}
 use Rattle.words.proofs.Commit.{Prepares, prepares-none, prepares-fence}
 use Rattle.node.specs.Lists.{has}
 use Rattle.node.specs.Slot.{entries}
-use Rattle.node.specs.View.{View, view, keys, slot-at, value-at}
-use Rattle.node.proofs.Spots.{lowest-below, lowest-new}
+use Rattle.node.specs.View.{View, view, keys, rank, slot-at, value-at}
+use Rattle.node.proofs.Spots.{spot-below, spot-unused}
 use Rattle.tree.specs.Header.{total-in}
 use Rattle.tree.specs.WellFormed.{WellFormed}
 use Rattle.tree.specs.inner.Reads.{Reads}
 use Rattle.tree.proofs.Way.{Reached}
-use Rattle.change.specs.Steps.{rank, entry-pairs, taken-slot, fill-spot, removed-slot}
+use Rattle.change.specs.Steps.{entry-pairs, taken-slot, fill-spot, removed-slot}
 use Rattle.change.specs.Put.{replace-events, fill-events}
 use Rattle.change.specs.Recover.{recovery}
 use Rattle.change.proofs.Nodes.{InNode}
@@ -83,11 +83,11 @@ module _ {m : List ℕ} {key : ℕ} (w : WellFormed m) (y : Reached m key) where
       parts = append-assoc (stored ps) (fence ∷ []) (once (slot-at k) (taken-slot u key i))
 
       small : i < entries
-      small = lowest-below entries (u .named) room
+      small = spot-below (u .named) room
 
       free : (x : ℕ) → Addressed x ps → ¬ Reads m x
-      free x (inl e) = entry-unread w k i (leaf-range w y .0) small (lowest-new entries (u .named) room) (inl (sym e))
-      free x (inr (inl e)) = entry-unread w k i (leaf-range w y .0) small (lowest-new entries (u .named) room) (inr (sym e))
+      free x (inl e) = entry-unread w k i (leaf-range w y .0) small (spot-unused (u .named) room) (inl (sym e))
+      free x (inr (inl e)) = entry-unread w k i (leaf-range w y .0) small (spot-unused (u .named) room) (inr (sym e))
       free x (inr (inr e)) = absurd e
 
       prepares : Prepares (Reads m) (stored ps ++ (fence ∷ []))

@@ -15,15 +15,16 @@ use Rattle.words.proofs.Tests.{both, differ}
 use Rattle.words.proofs.Blocks.{Off}
 use Rattle.node.specs.Lists.{insert, remove, has, all-below, different}
 use Rattle.node.specs.Slot.{byte, names, slot, entries}
-use Rattle.node.specs.View.{Record, View, view, entry, keys, slot-at, link-at, key-at, value-at}
+use Rattle.node.specs.View.{Record, View, view, entry, keys, rank, slot-at, link-at, key-at, value-at}
 use Rattle.node.proofs.Slots.{names-slot, length-names}
 use Rattle.node.proofs.Places.{length-insert, length-remove, map-insert, map-remove, insert-remove}
 use Rattle.node.proofs.Every.{below-insert, below-remove, below-at, below-every, every-has}
 use Rattle.node.proofs.Sets.{different-insert, different-remove, has-remove}
-use Rattle.node.proofs.Spots.{lowest-below, lowest-new}
+use Rattle.node.proofs.Spots.{spot-below, spot-unused}
 use Rattle.node.proofs.Views.{view-words, view-names, record-at, map-same}
+use Rattle.tree.specs.Halves.{eight}
 use Rattle.tree.proofs.Fits.{Named, Says, says}
-use Rattle.change.specs.Steps.{rank, entry-pairs, taken-slot, parent-spot, eight}
+use Rattle.change.specs.Steps.{entry-pairs, taken-slot, parent-spot}
 use Rattle.change.proofs.Pairs.{Within, Between, Stands, Apart}
 
 -- word w is one of node k's
@@ -106,7 +107,7 @@ module _ (k : ℕ) (u : View) (r : Record) where
 
   pub taken-in : length (u .named) < entries → Within (InNode k) (taken-pairs k u r)
   taken-in few =
-      let l : parent-spot u < entries = lowest-below entries (u .named) few in
+      let l : parent-spot u < entries = spot-below (u .named) few in
       ((omega arith, omega arith), ((omega arith, omega arith), ((omega arith, omega arith), tt)))
 
   pub taken-apart : Apart (taken-pairs k u r)
@@ -153,8 +154,8 @@ module _ {m m′ : List ℕ} {k : ℕ} (n : Named (view m k)) where
       let ns : List ℕ = u .named in
       let e : ℕ = parent-spot u in
       let i : ℕ = rank u (r .0) in
-      let l : e < entries = lowest-below entries ns few in
-      let new : has e ns ≡ false = lowest-new entries ns few in
+      let l : e < entries = spot-below ns few in
+      let new : has e ns ≡ false = spot-unused ns few in
       slot-says m′ (insert i e ns) (b .stands .1 .1 .0)
       (link-still b (taken-off k u r (link-at k) (omega arith) (omega arith) (omega arith)))
       (entered m m′ k i e ns r new (n .small) (rw (b .stands .0, b .stands .1 .0)) (λ x p q. entry-still b x p

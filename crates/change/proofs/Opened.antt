@@ -2,8 +2,8 @@
 use Prim.Native.Nat.{ℕ}
 use Rattle.words.specs.Blocks.{lines, stored, replay}
 use Rattle.words.specs.Written.{written}
-use Rattle.node.specs.Lists.{has, all-below, different, rising, covered, below, lowest-from}
-use Rattle.node.specs.Slot.{bytes, word-of, names, slot}
+use Rattle.node.specs.Lists.{has, all-below, different, rising, covered, below}
+use Rattle.node.specs.Slot.{bytes, word-of, names, slot, spot}
 use Rattle.node.specs.View.{view, sound, good}
 use Rattle.tree.specs.Header.{form-agrees, counts-agree}
 use Rattle.tree.specs.Kids.{pick-from}
@@ -19,7 +19,7 @@ use Rattle.change.specs.Sums.{fresh, put-all, seven, less-30, putting-35
 
 unfoldable pub opened : ℕ
 unfolding
-    lines stored replay written has all-below different rising covered below lowest-from bytes word-of names slot view sound good
+    lines stored replay written has all-below different rising covered below bytes word-of names slot spot view sound good
     form-agrees counts-agree pick-from way way-to find staying-pairs new-nodes log-words log-written log-replayed log-finished log-events
     plan-events format-events format-past-list log-pairs all-may-store log-agrees recover-past-form delete-at rise split needed put-at
     fresh put-all seven less-30 putting-35 with-35 splitting split-by pairs-in recovered

@@ -5,7 +5,7 @@ use mathlib.Core.Logic.{inl, inr, ⊎-elim}
 use mathlib.Core.List.{List, [], _∷_, _++_}
 use mathlib.Core.Bool.{Bool, true, false}
 use native.Mathlib.Omega.{arith}
-use lib.ListN.{length, drop}
+use lib.ListN.{length}
 use borrow.Author.Tests.{eqb-true, eqb-false}
 use Rattle.words.specs.Pool.{used-at, root-at, height-at}
 use Rattle.words.specs.Event.{at}
@@ -15,14 +15,15 @@ use Rattle.node.specs.Slot.{entries}
 use Rattle.node.specs.View.{Record, View, view}
 use Rattle.tree.specs.Header.{used-of, root-of}
 use Rattle.tree.specs.WellFormed.{WellFormed}
+use Rattle.tree.specs.Halves.{lower, fifth, upper-three, supply, used-with}
 use Rattle.tree.proofs.Lists.{each-left, each-right}
 use Rattle.tree.proofs.Fits.{Named}
 use Rattle.tree.proofs.Form.{counts}
 use Rattle.tree.proofs.Frame.{whole-named}
 use Rattle.tree.proofs.SplitAfter.{Risen, risen-root, risen-room, risen-full}
-use Rattle.change.specs.Steps.{full, new-node, lower, eight, fifth, staying-pairs}
+use Rattle.change.specs.Steps.{full, new-node, staying-pairs}
 use Rattle.change.specs.Plan.{Plan}
-use Rattle.change.specs.Put.{supply, used-with, rise}
+use Rattle.change.specs.Put.{rise}
 use Rattle.change.proofs.Pairs.{Within, Stand, Stands, within-off, off-append}
 use Rattle.change.proofs.Goes.{node-pairs}
 use Rattle.change.proofs.Nodes.{InNode, Became, view-still, taken-pairs, taken-in, taken-says}
@@ -64,10 +65,10 @@ module _ {m m′ : List ℕ} (w : WellFormed m) where
   pub risen : (above : List ℕ) (up : Record) (i : ℕ) → Path m above → Has m m′ above (rise m above up i) → Risen m m′ above up i
   unfolding rise
   risen [] up i t h =
-      risen-root (counts m (w .counts) .height .0) (new-says m′ (supply m i) (root-of m) (up ∷ []) (omega arith) (h .nodes))
+      risen-root (counts m (w .counts) .height .0) (new-says m′ (supply (used-of m) i) (root-of m) (up ∷ []) (omega arith) (h .nodes))
       (h .pairs .0) (h .pairs .1 .0) (h .pairs .1 .1 .0)
   risen (k ∷ above) up i t h =
-      go (risen above (fifth (view m k) up .0, supply m i) (i + 1) (path-above t)) (full (view m k)) refl
+      go (risen above (fifth (view m k) up .0, supply (used-of m) i) (i + 1) (path-above t)) (full (view m k)) refl
     where
       u : View
       u = view m k
@@ -78,24 +79,25 @@ module _ {m m′ : List ℕ} (w : WellFormed m) where
       named : Named (view m k)
       named = whole-named (w .whole) k (range .0) (range .1)
 
-      go : (Has m m′ above (rise m above (fifth (view m k) up .0, supply m i) (i + 1))
-          → Risen m m′ above (fifth (view m k) up .0, supply m i) (i + 1))
+      go : (Has m m′ above (rise m above (fifth (view m k) up .0, supply (used-of m) i) (i + 1))
+          → Risen m m′ above (fifth (view m k) up .0, supply (used-of m) i) (i + 1))
           → (b : Bool) → full (view m k) ≡ b → Risen m m′ (k ∷ above) up i
       go f true b =
           let all : length (view m k .named) ≡ entries = eqb-true (length (view m k .named)) entries b in
           let e : Record = fifth (view m k) up in
-          let over : List Record = drop (lower + 1) (eight (view m k) up) in
-          let rest : Plan = rise m above (e .0, supply m i) (i + 1) in
-          let g = parts (new-node (supply m i) (e .1) over) (staying-pairs k (view m k) up []) rest t
+          let over : List Record = upper-three (view m k) up in
+          let new : ℕ = supply (used-of m) i in
+          let rest : Plan = rise m above (e .0, new) (i + 1) in
+          let g = parts (new-node new (e .1) over) (staying-pairs k (view m k) up []) rest t
           (stay-in k (view m k) up (record { only = tt; apart = tt }))
-          (rise-placed w above (e .0, supply m i) (i + 1) (path-above t) .pairs-in) (rw b at h) in
+          (rise-placed w above (e .0, new) (i + 1) (path-above t) .pairs-in) (rw b at h) in
           risen-full all (inner-stays m m′ k named up all (g .kept))
-          (new-says m′ (supply m i) (e .1) over (over-few w k up (lower + 1) (range .1) (range .0) (omega arith)) (g .made)) (f (g .more))
+          (new-says m′ new (e .1) over (over-few w k up (lower + 1) (range .1) (range .0) (omega arith)) (g .made)) (f (g .more))
       go f false b =
           let few : length (view m k .named) < entries = omega (arith, eqb-false (length (view m k .named)) entries b, named .few) in
           let g = rw b at h in
           let ps : List Pair = taken-pairs k u up in
-          let last : List Pair = (used-at, used-with m i) ∷ [] in
+          let last : List Pair = (used-at, used-with (used-of m) i) ∷ [] in
           let c : Became m m′ k ps = record {
             stands = each-left (Stand m′) ps last (g .pairs);
             still = λ x n o. g .still x (target-here t x n) (off-append x ps last o (⊎-elim (omega (arith, n .0)) absurd));

@@ -6,7 +6,7 @@ use mathlib.Core.List.{List, [], _∷_}
 use mathlib.Core.Bool.{Bool, true, false}
 use mathlib.Core.Option.{some}
 use native.Mathlib.Omega.{arith}
-use lib.ListN.{length, drop}
+use lib.ListN.{length}
 use borrow.Author.Tests.{eqb-true}
 use Rattle.words.specs.Pool.{node-at, used-at, commit-at, log-at, nodes-at, pairs-most}
 use Rattle.words.specs.Event.{at, run}
@@ -18,6 +18,7 @@ use Rattle.node.specs.View.{Record, View, view, keys, link-at}
 use Rattle.tree.specs.Header.{total-in, capacity-of, used-of}
 use Rattle.tree.specs.Lists.{occ}
 use Rattle.tree.specs.WellFormed.{WellFormed}
+use Rattle.tree.specs.Halves.{lower, upper-four, fifth, supply}
 use Rattle.tree.proofs.Fits.{Named}
 use Rattle.tree.proofs.Form.{form, counts}
 use Rattle.tree.proofs.Frame.{whole-named}
@@ -27,9 +28,9 @@ use Rattle.tree.proofs.Way.{Reached}
 use Rattle.tree.proofs.After.{After}
 use Rattle.tree.proofs.Count.{needs, split-needs}
 use Rattle.tree.proofs.SplitAfter.{SplitTo, split-after}
-use Rattle.change.specs.Steps.{full, new-node, lower, eight, fifth, staying-pairs}
+use Rattle.change.specs.Steps.{full, new-node, staying-pairs}
 use Rattle.change.specs.Plan.{Plan, plan-events}
-use Rattle.change.specs.Put.{supply, rise, split, needed}
+use Rattle.change.specs.Put.{rise, split, needed}
 use Rattle.change.specs.Most.{split-levels, Counted}
 use Rattle.change.proofs.Counts.{counted}
 use Rattle.change.proofs.Pairs.{Within, Between, within-at, within-off, within-weaken}
@@ -72,7 +73,7 @@ module _ {m : List ℕ} (w : WellFormed m) {key : ℕ} (y : Reached m key) where
   target-log x b (inl h) = omega (arith, b .0, h .1)
   target-log x b (inr h) = omega (arith, b .1, h .2 .0, split-path .range (h .0) (h .1) .0)
 
-  pub target-new : (x : ℕ) → node-at (supply m 0) ≤ x → ¬ Target (y .place .number ∷ above (y .up)) x
+  pub target-new : (x : ℕ) → node-at (supply (used-of m) 0) ≤ x → ¬ Target (y .place .number ∷ above (y .up)) x
   target-new x b (inl h) = omega (arith, h .1)
   target-new x b (inr h) = omega (arith, h .2 .1, split-path .range (h .0) (h .1) .1)
 
@@ -90,7 +91,7 @@ module _ {m : List ℕ} (w : WellFormed m) {key : ℕ} (y : Reached m key) (v : 
   r = (key, v)
 
   abbrev up : Record
-  up = (fifth u r .0, supply m 0)
+  up = (fifth u r .0, supply (used-of m) 0)
 
   abbrev plan : Plan
   plan = split m k ks r
@@ -101,17 +102,17 @@ module _ {m : List ℕ} (w : WellFormed m) {key : ℕ} (y : Reached m key) (v : 
   named : Named (view m (y .place .number))
   named = let i = leaf-range w y in whole-named (w .whole) k (i .0) (i .1)
 
-  of-link : OfLink (y .place .number) ((link-at (y .place .number), supply m 0) ∷ [])
+  of-link : OfLink (y .place .number) ((link-at (y .place .number), supply (used-of m) 0) ∷ [])
   of-link = record { only = (refl, tt); apart = (absurd, tt) }
 
-  over : length (drop lower (eight (view m (y .place .number)) (key, v))) ≤ entries
+  over : length (upper-four (view m (y .place .number)) (key, v)) ≤ entries
   over = let i = leaf-range w y in over-few w k r lower (i .1) (i .0) (omega arith)
 
   -- where it stores
   pub split-placed : Placed m (y .place .number ∷ above (y .up)) 0 (split m (y .place .number) (above (y .up)) (key, v))
   unfolding split
   split-placed =
-      placed-split (split-path w y) 0 (u .link) (drop lower (eight u r)) r (rise m ks up 1) over of-link
+      placed-split (split-path w y) 0 (u .link) (upper-four u r) r (rise m ks up 1) over of-link
       (rise-placed w ks up 1 path-up)
 
   pub split-few : length (split m (y .place .number) (above (y .up)) (key, v) .pairs) ≤ pairs-most
@@ -163,8 +164,8 @@ module _ {m : List ℕ} (w : WellFormed m) {key : ℕ} (y : Reached m key) (v : 
         long = form m (w .form) .room
 
     -- a word of the header, or of a node off the path, that is below the log or above it
-    split-off : (x : ℕ) → x < node-at (supply m 0) → ¬ Target (y .place .number ∷ above (y .up)) x → ¬ Between log-at nodes-at x
-        → at (run m (plan-events (split m (y .place .number) (above (y .up)) (key, v)))) x ≡ at m x
+    split-off : (x : ℕ) → x < node-at (supply (used-of m) 0) → ¬ Target (y .place .number ∷ above (y .up)) x
+        → ¬ Between log-at nodes-at x → at (run m (plan-events (split m (y .place .number) (above (y .up)) (key, v)))) x ≡ at m x
     split-off x h t l =
         plan-off m plan split-few x
         (within-off (InNew m 0 (length (plan .nodes))) (node-pairs plan) x (split-placed .nodes-in) (λ n. omega (arith, n .0)))
@@ -176,8 +177,8 @@ module _ {m : List ℕ} (w : WellFormed m) {key : ℕ} (y : Reached m key) (v : 
     unfolding split
     split-to absent =
         let all : length (view m k .named) ≡ entries = eqb-true (length (view m k .named)) entries is-full in
-        let new : List Pair = new-node (supply m 0) (u .link) (drop lower (eight u r)) in
-        let stay : List Pair = staying-pairs k u r ((link-at k, supply m 0) ∷ []) in
+        let new : List Pair = new-node (supply (used-of m) 0) (u .link) (upper-four u r) in
+        let stay : List Pair = staying-pairs k u r ((link-at k, supply (used-of m) 0) ∷ []) in
         let rest : Plan = rise m ks up 1 in
         let g : Parts m m′ k ks new stay rest =
         parts new stay rest (split-path w y) (stay-in k u r of-link) (rise-placed w ks up 1 path-up .pairs-in) split-has in
@@ -189,8 +190,8 @@ module _ {m : List ℕ} (w : WellFormed m) {key : ℕ} (y : Reached m key) (v : 
               split-off x (omega (arith, n .1)) (node-other j p o x n) (λ b. omega (arith, n .0, b .1)));
           full = all;
           absent = absent;
-          low = leaf-stays m m′ k named r all (supply m 0) (g .kept);
-          high = new-says m′ (supply m 0) (u .link) (drop lower (eight u r)) over (g .made);
+          low = leaf-stays m m′ k named r all (supply (used-of m) 0) (g .kept);
+          high = new-says m′ (supply (used-of m) 0) (u .link) (upper-four u r) over (g .made);
           risen = risen w ks up 1 path-up (g .more);
         }
       where

@@ -1,5 +1,5 @@
 -- Where the plan of a split stores: its pairs to the header's counts and to nodes on the path, its new nodes above used, no word twice.
-use Prim.Native.Nat.{ℕ, suc, _+_, _≤_, _<_}
+use Prim.Native.Nat.{ℕ, suc, _+_, _-_, _≤_, _<_}
 use mathlib.Core.Path.{_≡_, refl}
 use mathlib.Core.Logic.{_⊎_, inl, inr, ⊎-elim}
 use mathlib.Core.List.{List, [], _∷_, _++_}
@@ -12,19 +12,19 @@ use Rattle.words.specs.Pool.{node-at, used-at, commit-at}
 use Rattle.words.specs.Blocks.{Pair}
 use Rattle.words.proofs.Blocks.{Off}
 use Rattle.node.specs.Slot.{entries}
-use Rattle.node.specs.View.{Record, View, view, slot-at, link-at, key-at, value-at}
-use Rattle.node.proofs.Spots.{lowest-below}
+use Rattle.node.specs.View.{Record, View, view, rank, slot-at, link-at, key-at, value-at}
+use Rattle.node.proofs.Spots.{spot-below}
 use Rattle.tree.specs.Header.{used-of, root-of}
 use Rattle.tree.specs.Lists.{occ}
 use Rattle.tree.specs.WellFormed.{WellFormed}
+use Rattle.tree.specs.Halves.{eight, lower, fifth, upper-three, supply, used-with}
 use Rattle.tree.proofs.Lists.{each-append, one-self}
 use Rattle.tree.proofs.Fits.{view-sized}
 use Rattle.tree.proofs.Frame.{whole-named}
-use Rattle.tree.proofs.Eight.{with-length}
-use Rattle.change.specs.Steps.{rank, full, entry-pairs, laid, new-node, lower}
-use Rattle.change.specs.Steps.{eight, fifth, staying-spot, lower-slot, staying-pairs}
+use Rattle.tree.proofs.Eight.{eight-more}
+use Rattle.change.specs.Steps.{full, entry-pairs, laid, new-node, staying-spot, lower-slot, staying-pairs}
 use Rattle.change.specs.Plan.{Plan}
-use Rattle.change.specs.Put.{supply, used-with, rise}
+use Rattle.change.specs.Put.{rise}
 use Rattle.change.proofs.Pairs.{Within, Between, Apart, within-at, within-off, within-weaken, between-more, apart-append}
 use Rattle.change.proofs.Goes.{node-pairs}
 use Rattle.change.proofs.Nodes.{InNode, taken-pairs, taken-in, taken-apart}
@@ -39,7 +39,7 @@ Target path w = Between used-at commit-at w ⊎ OnPath path w
 
 -- word w is of one of the c new nodes that come after i others
 abbrev pub InNew : List ℕ → ℕ → ℕ → ℕ → Type 0
-InNew m i c = Between (node-at (supply m i)) (node-at (supply m (i + c)))
+InNew m i c = Between (node-at (supply (used-of m) i)) (node-at (supply (used-of m) (i + c)))
 
 -- where the pairs and the new nodes of a plan lie, no word twice
 pub record Placed (m path : List ℕ) (i : ℕ) (p : Plan) : Type 0 where
@@ -114,7 +114,7 @@ module _ (k : ℕ) (u : View) (r : Record) {ws : List Pair} (l : OfLink k ws) wh
 
   high-in : Within High (entry-pairs k e r)
   high-in =
-      let h : e < entries = lowest-below entries (take 3 (u .named)) (rw length-take (omega arith)) in
+      let h : e < entries = spot-below (take (lower - 1) (u .named)) (rw length-take (omega arith)) in
       ((omega arith, omega arith), ((omega arith, omega arith), tt))
 
   pub stay-in : Within (InNode k) (staying-pairs k u r ws)
@@ -167,7 +167,7 @@ module _ {m : List ℕ} {k : ℕ} {above : List ℕ} (t : Path m (k ∷ above)) 
   module _ (i link : ℕ) (rs : List Record) (r : Record) {ws : List Pair} (rest : Plan) (few : length rs ≤ entries) (l : OfLink k ws)
       (p : Placed m above (i + 1) rest) where
     pub placed-split : Placed m (k ∷ above) i (record {
-      nodes = new-node (supply m i) link rs ∷ rest .nodes;
+      nodes = new-node (supply (used-of m) i) link rs ∷ rest .nodes;
       pairs = staying-pairs k (view m k) r ws ++ rest .pairs;
     })
     placed-split = record {
@@ -177,11 +177,11 @@ module _ {m : List ℕ} {k : ℕ} {above : List ℕ} (t : Path m (k ∷ above)) 
       pairs-apart = apart-append stay (rest .pairs) (stay-apart k u r l) (p .pairs-apart) (λ x a.
           within-off (Target above) (rest .pairs) x (p .pairs-in) (target-other x (within-at (InNode k) stay x (stay-in k u r l) a)));
       nodes-in = each-append (λ (q : Pair). InNew m i (suc (length (rest .nodes))) (q .0)) new (node-pairs rest)
-          (between-more new (omega arith) (omega arith) (new-in (supply m i) link rs few))
+          (between-more new (omega arith) (omega arith) (new-in (supply (used-of m) i) link rs few))
           (between-more (node-pairs rest) (omega arith) (omega arith) (p .nodes-in));
-      nodes-apart = apart-append new (node-pairs rest) (new-apart (supply m i) link rs) (p .nodes-apart) (λ x a.
+      nodes-apart = apart-append new (node-pairs rest) (new-apart (supply (used-of m) i) link rs) (p .nodes-apart) (λ x a.
           within-off _ (node-pairs rest) x (p .nodes-in) (λ n.
-          omega (arith, n .0, within-at (InNode (supply m i)) new x (new-in (supply m i) link rs few) a .1)));
+          omega (arith, n .0, within-at (InNode (supply (used-of m) i)) new x (new-in (supply (used-of m) i) link rs few) a .1)));
     }
       where
         u : View
@@ -191,25 +191,25 @@ module _ {m : List ℕ} {k : ℕ} {above : List ℕ} (t : Path m (k ∷ above)) 
         stay = staying-pairs k (view m k) r ws
 
         new : List Pair
-        new = new-node (supply m i) link rs
+        new = new-node (supply (used-of m) i) link rs
 
 module _ {m : List ℕ} (w : WellFormed m) where
   -- a full node and a record: at most four go over
   pub over-few : (k : ℕ) (r : Record) (c : ℕ) → k ≤ used-of m → 1 ≤ k → lower ≤ c → length (drop c (eight (view m k) r)) ≤ entries
   over-few k r c q p h =
-      rw length-drop (omega (arith, with-length (view m k) r, view-sized m k, whole-named (w .whole) k p q .few))
+      rw length-drop (omega (arith, eight-more (view m k) r, view-sized m k, whole-named (w .whole) k p q .few))
 
   pub rise-placed : (above : List ℕ) (up : Record) (i : ℕ) → Path m above → Placed m above i (rise m above up i)
   unfolding rise
   rise-placed [] up i t = record {
     pairs-in = (inl (omega arith, omega arith), (inl (omega arith, omega arith), (inl (omega arith, omega arith), tt)));
     pairs-apart = (⊎-elim (omega arith) (⊎-elim (omega arith) absurd), (⊎-elim (omega arith) absurd, (absurd, tt)));
-    nodes-in = between-more (new-node (supply m i) (root-of m) (up ∷ [])) (omega arith) (omega arith)
-        (new-in (supply m i) (root-of m) (up ∷ []) (omega arith));
-    nodes-apart = new-apart (supply m i) (root-of m) (up ∷ []);
+    nodes-in = between-more (new-node (supply (used-of m) i) (root-of m) (up ∷ [])) (omega arith) (omega arith)
+        (new-in (supply (used-of m) i) (root-of m) (up ∷ []) (omega arith));
+    nodes-apart = new-apart (supply (used-of m) i) (root-of m) (up ∷ []);
   }
   rise-placed (k ∷ above) up i t =
-      go (rise-placed above (fifth (view m k) up .0, supply m i) (i + 1) (path-above t)) (full (view m k)) refl
+      go (rise-placed above (fifth (view m k) up .0, supply (used-of m) i) (i + 1) (path-above t)) (full (view m k)) refl
     where
       u : View
       u = view m k
@@ -217,17 +217,17 @@ module _ {m : List ℕ} (w : WellFormed m) where
       range : (1 ≤ k) × (k ≤ used-of m)
       range = path-head t
 
-      go : Placed m above (i + 1) (rise m above (fifth (view m k) up .0, supply m i) (i + 1)) → (b : Bool) → full (view m k) ≡ b
-          → Placed m (k ∷ above) i (rise m (k ∷ above) up i)
+      go : Placed m above (i + 1) (rise m above (fifth (view m k) up .0, supply (used-of m) i) (i + 1)) → (b : Bool)
+          → full (view m k) ≡ b → Placed m (k ∷ above) i (rise m (k ∷ above) up i)
       go p true f =
-          rw f (placed-split t i (fifth u up .1) (drop (lower + 1) (eight u up)) up
-          (rise m above (fifth u up .0, supply m i) (i + 1)) (over-few k up (lower + 1) (range .1) (range .0) (omega arith))
+          rw f (placed-split t i (fifth u up .1) (upper-three u up) up
+          (rise m above (fifth u up .0, supply (used-of m) i) (i + 1)) (over-few k up (lower + 1) (range .1) (range .0) (omega arith))
           (record { only = tt; apart = tt }) p)
       go p false f =
           let room : length (u .named) < entries =
           omega (arith, eqb-false (length (u .named)) entries f, whole-named (w .whole) k (range .0) (range .1) .few) in
           let ps : List Pair = taken-pairs k u up in
-          let last : List Pair = (used-at, used-with m i) ∷ [] in
+          let last : List Pair = (used-at, used-with (used-of m) i) ∷ [] in
           rw f (record {
             pairs-in = each-append (λ (q : Pair). Target (k ∷ above) (q .0)) ps last
                 (within-weaken (InNode k) ps (target-here t) (taken-in k u up room)) (inl (omega arith, omega arith), tt);

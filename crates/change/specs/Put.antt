@@ -2,7 +2,7 @@
 use Prim.Native.Nat.{ℕ, suc, _+_, _-_}
 use mathlib.Core.List.{List, [], _∷_, _++_}
 use mathlib.Core.Bool.{not}
-use lib.ListN.{drop, getD}
+use lib.ListN.{getD}
 use lib.Dec.{ltb}
 use Rattle.words.specs.Tests.{if_then_else_}
 use Rattle.words.specs.Pool.{used-at, root-at, height-at, height-most}
@@ -10,23 +10,15 @@ use Rattle.words.specs.Event.{Event, fence}
 use Rattle.words.specs.Blocks.{once, stored}
 use Rattle.words.specs.declared.refusal.Refusal.the-variants.{Damaged, NoRoom}
 use Rattle.node.specs.Lists.{has}
-use Rattle.node.specs.View.{Record, View, view, keys, slot-at, link-at, value-at}
+use Rattle.node.specs.View.{Record, View, view, keys, rank, slot-at, link-at, value-at}
 use Rattle.tree.specs.Header.{capacity-of, used-of, root-of, height-of}
 use Rattle.tree.specs.Path.{way-to}
+use Rattle.tree.specs.Halves.{upper-four, fifth, upper-three, supply, used-with}
 use Rattle.change.specs.declared.Outcome.{Outcome}
 use Rattle.change.specs.declared.Outcome.the-variants.{New, Replaced}
 use Rattle.change.specs.Gate.{Planned, refused, past-list, past-gate, at-leaf}
-use Rattle.change.specs.Steps.{rank, full, entry-pairs, taken-slot, fill-spot, parent-spot, new-node, lower, eight, fifth}
-use Rattle.change.specs.Steps.{staying-pairs}
+use Rattle.change.specs.Steps.{full, entry-pairs, taken-slot, fill-spot, parent-spot, new-node, staying-pairs}
 use Rattle.change.specs.Plan.{Plan, plan-events}
-
--- "New nodes are numbered used + 1 upward from the leaf": the new node that comes after i others
-abbrev pub supply : List ℕ → ℕ → ℕ
-supply m i = used-of m + 1 + i
-
--- used once there are i new nodes
-abbrev pub used-with : List ℕ → ℕ → ℕ
-used-with m i = used-of m + i
 
 -- "Put, key present: store the value, flush, fence."
 abbrev pub replace-events : ℕ → View → Record → List Event
@@ -41,20 +33,24 @@ fill-events k u r = stored (entry-pairs k (fill-spot u) r) ++ (fence ∷ once (s
 -- go over. A full root gets a new root above it, leftmost child the old root." The pairs: "then key, child (lowest unused entry), slot
 -- word of the parent that took the last one; then used; then, for a new root, root and height".
 unfoldable pub rise : List ℕ → List ℕ → Record → ℕ → Plan
-rise m [] up i = record {
-  nodes = new-node (supply m i) (root-of m) (up ∷ []) ∷ [];
-  pairs = (used-at, used-with m (i + 1)) ∷ (root-at, supply m i) ∷ (height-at, height-of m + 1) ∷ [];
-}
+rise m [] up i =
+    let new = supply (used-of m) i in
+    record {
+      nodes = new-node new (root-of m) (up ∷ []) ∷ [];
+      pairs = (used-at, used-with (used-of m) (i + 1)) ∷ (root-at, new) ∷ (height-at, height-of m + 1) ∷ [];
+    }
 rise m (k ∷ above) up i =
     let u = view m k in
-    let rest = rise m above (fifth u up .0, supply m i) (i + 1) in
+    let new = supply (used-of m) i in
+    let rest = rise m above (fifth u up .0, new) (i + 1) in
     let splits : Plan = record {
-      nodes = new-node (supply m i) (fifth u up .1) (drop (lower + 1) (eight u up)) ∷ rest .nodes;
+      nodes = new-node new (fifth u up .1) (upper-three u up) ∷ rest .nodes;
       pairs = staying-pairs k u up [] ++ rest .pairs;
     } in
     let takes : Plan = record {
       nodes = [];
-      pairs = entry-pairs k (parent-spot u) up ++ ((slot-at k, taken-slot u (up .0) (parent-spot u)) ∷ (used-at, used-with m i) ∷ []);
+      pairs = entry-pairs k (parent-spot u) up
+          ++ ((slot-at k, taken-slot u (up .0) (parent-spot u)) ∷ (used-at, used-with (used-of m) i) ∷ []);
     } in
     if full u then splits else takes
 
@@ -62,10 +58,11 @@ rise m (k ∷ above) up i =
 unfoldable pub split : List ℕ → ℕ → List ℕ → Record → Plan
 split m k above r =
     let u = view m k in
-    let rest = rise m above (fifth u r .0, supply m 0) 1 in
+    let new = supply (used-of m) 0 in
+    let rest = rise m above (fifth u r .0, new) 1 in
     record {
-      nodes = new-node (supply m 0) (u .link) (drop lower (eight u r)) ∷ rest .nodes;
-      pairs = staying-pairs k u r ((link-at k, supply m 0) ∷ []) ++ rest .pairs;
+      nodes = new-node new (u .link) (upper-four u r) ∷ rest .nodes;
+      pairs = staying-pairs k u r ((link-at k, new) ∷ []) ++ rest .pairs;
     }
 
 -- 5: "l levels need l, or l + 1 with a new root", over the levels from the leaf up

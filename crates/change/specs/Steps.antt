@@ -2,18 +2,15 @@
 use Prim.Native.Nat.{ℕ, _+_, _-_}
 use mathlib.Core.List.{List, [], _∷_, _++_}
 use mathlib.Core.Bool.{Bool}
-use lib.ListN.{length, take, getD}
+use lib.ListN.{length, take}
 use lib.Dec.{ltb, eqb}
 use Rattle.words.specs.Tests.{if_then_else_}
 use Rattle.words.specs.Lists.{count-from}
 use Rattle.words.specs.Blocks.{Pair}
-use Rattle.node.specs.Lists.{insert, remove, below}
+use Rattle.node.specs.Lists.{insert, remove}
 use Rattle.node.specs.Slot.{slot, entries, spot}
-use Rattle.node.specs.View.{Record, View, keys, slot-at, link-at, key-at, value-at}
-
--- the place of a key among those of a node
-abbrev pub rank : View → ℕ → ℕ
-rank u key = below key (keys (u .records))
+use Rattle.node.specs.View.{Record, View, rank, slot-at, link-at, key-at, value-at}
+use Rattle.tree.specs.Halves.{lower}
 
 -- a node that has no entry left
 abbrev pub full : View → Bool
@@ -48,23 +45,11 @@ laid k i (r ∷ rs) = entry-pairs k i r ++ laid k (i + 1) rs
 abbrev pub new-node : ℕ → ℕ → List Record → List Pair
 new-node k link rs = (slot-at k, slot (count-from 0 (length rs))) ∷ (link-at k, link) ∷ laid k 0 rs
 
--- "of the 8 records the lower 4 stay"
-abbrev pub lower : ℕ
-lower = 4
-
--- "the 8 records" of a full node and a new one
-abbrev pub eight : View → Record → List Record
-eight u r = insert (rank u (r .0)) r (u .records)
-
--- "the fifth" of them
-abbrev pub fifth : View → Record → Record
-fifth u r = getD (eight u r) lower (0, 0)
-
 -- "A new record that stays below takes the lowest entry not kept": three of the old entries are kept then
 abbrev pub staying-spot : View → ℕ
 staying-spot u = spot (take (lower - 1) (u .named))
 
--- the slot word of the lower 4
+-- the slot word of those that stay: "of the 8 records the lower 4 stay"
 abbrev pub lower-slot : View → ℕ → ℕ
 lower-slot u key = slot (take lower (insert (rank u key) (staying-spot u) (u .named)))
 

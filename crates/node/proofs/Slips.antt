@@ -5,7 +5,7 @@ use mathlib.Core.List.{List, [], _∷_, _++_}
 use mathlib.Core.Bool.{true, false}
 use lib.ListN.{replicate}
 use Rattle.words.specs.Pool.{nodes-at}
-use Rattle.node.specs.Lists.{has, all-below, different, rising, covered, upto, lowest-from}
+use Rattle.node.specs.Lists.{has, all-below, different, rising, covered, upto}
 use Rattle.node.specs.Slot.{bytes, names, spot}
 use Rattle.node.specs.View.{view, sound, good, no-end}
 
@@ -41,5 +41,5 @@ equal-key = refl
 
 -- entry 0 is never given out
 pub spot-from-one : spot [] ≡ 0
-unfolding lowest-from has
+unfolding spot has
 spot-from-one = refl

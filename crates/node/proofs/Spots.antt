@@ -1,4 +1,4 @@
--- The lowest number that is not in a list: one turn and the end of the loop that looks for it, and that there is one.
+-- The spot: the two laws by which it is used, and for its code the start, one turn and the end of the loop that looks for it.
 use mathlib.Core.Path.{_≡_, _∙_, ap, sym, refl}
 use mathlib.Core.List.{List, [], _∷_}
 use mathlib.Core.Logic.{⊎-elim}
@@ -12,6 +12,12 @@ use lib.ListN.{length}
 use Rattle.words.specs.Tests.{if_then_else_}
 use Rattle.words.proofs.Turns.{turn, over}
 use Rattle.node.specs.Lists.{has, lowest-from}
+use Rattle.node.specs.Slot.{entries, spot}
+
+-- where the loop starts
+pub spot-from : (ns : List ℕ) → spot ns ≡ lowest-from 0 entries ns
+unfolding spot
+spot-from ns = refl
 
 module _ (n i : ℕ) (ns : List ℕ) where
   pub lowest-here : i < n → has i ns ≡ false → lowest-from i (n - i) ns ≡ i
@@ -26,7 +32,7 @@ module _ (n i : ℕ) (ns : List ℕ) where
   unfolding lowest-from
   lowest-end h = rw (over n i h)
 
-pub lowest-le : (i n : ℕ) (ns : List ℕ) → lowest-from i n ns ≤ i + n
+lowest-le : (i n : ℕ) (ns : List ℕ) → lowest-from i n ns ≤ i + n
 unfolding lowest-from
 lowest-le i zero ns = omega arith
 lowest-le i (suc n) ns = go (has i ns) (lowest-le (i + 1) n ns)
@@ -36,7 +42,7 @@ lowest-le i (suc n) ns = go (has i ns) (lowest-le (i + 1) n ns)
     go false h = omega arith
 
 -- what is found is not in the list
-pub lowest-free : (i n : ℕ) (ns : List ℕ) → lowest-from i n ns < i + n → has (lowest-from i n ns) ns ≡ false
+lowest-free : (i n : ℕ) (ns : List ℕ) → lowest-from i n ns < i + n → has (lowest-from i n ns) ns ≡ false
 unfolding lowest-from
 lowest-free i zero ns h = absurd (omega arith)
 lowest-free i (suc n) ns h = go (has i ns) refl (λ l. lowest-free (i + 1) n ns l) h
@@ -85,7 +91,7 @@ without-has x z (y ∷ ys) ne h = go (without-has x z ys ne) (eqb x y) refl (eqb
     go f false e false u h = rw (u) (f h)
 
 -- a list that has all numbers below n is at least n long
-pub crowded : (n : ℕ) (ns : List ℕ) → ((x : ℕ) → x < n → has x ns ≡ true) → n ≤ length ns
+crowded : (n : ℕ) (ns : List ℕ) → ((x : ℕ) → x < n → has x ns ≡ true) → n ≤ length ns
 crowded zero ns f = omega arith
 crowded (suc n) ns f =
     let l : length ns ≡ suc (length (without n ns)) = without-length n ns (f n (omega arith)) in
@@ -93,7 +99,7 @@ crowded (suc n) ns f =
     omega arith
 
 -- so a list of fewer leaves one over
-pub lowest-below : (n : ℕ) (ns : List ℕ) → length ns < n → lowest-from 0 n ns < n
+lowest-below : (n : ℕ) (ns : List ℕ) → length ns < n → lowest-from 0 n ns < n
 lowest-below n ns h =
     let le : lowest-from 0 n ns ≤ n = omega (arith, lowest-le 0 n ns) in
     ⊎-elim
@@ -102,5 +108,12 @@ lowest-below n ns h =
     (λ (l : lowest-from 0 n ns < n). l)
     (eq-or-lt-of-le le)
 
-pub lowest-new : (n : ℕ) (ns : List ℕ) → length ns < n → has (lowest-from 0 n ns) ns ≡ false
+lowest-new : (n : ℕ) (ns : List ℕ) → length ns < n → has (lowest-from 0 n ns) ns ≡ false
 lowest-new n ns h = lowest-free 0 n ns (omega (arith, lowest-below n ns h))
+
+-- the two laws: all that is asked of the spot outside of this crate
+pub spot-below : (ns : List ℕ) → length ns < entries → spot ns < entries
+spot-below ns h = rw (spot-from ns) (lowest-below entries ns h)
+
+pub spot-unused : (ns : List ℕ) → length ns < entries → has (spot ns) ns ≡ false
+spot-unused ns h = rw (spot-from ns) (lowest-new entries ns h)

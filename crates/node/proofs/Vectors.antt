@@ -2,7 +2,7 @@
 use mathlib.Core.Path.{_≡_, refl}
 use mathlib.Core.List.{[], _∷_}
 use Rattle.words.specs.Lists.{count-from}
-use Rattle.node.specs.Lists.{remove, lowest-from, has}
+use Rattle.node.specs.Lists.{remove, has}
 use Rattle.node.specs.Slot.{bytes, word-of, names, slot, spot}
 
 -- the seven entries in order, and with the third taken out; then the spot is that third
@@ -15,12 +15,12 @@ unfolding slot word-of
 six = refl
 
 pub six-spot : spot (names 0x0006050403010006) ≡ 2
-unfolding names bytes lowest-from has
+unfolding names bytes spot has
 six-spot = refl
 
 -- of several unused entries it is the lowest
 pub two-spot : spot (0 ∷ 1 ∷ []) ≡ 2
-unfolding lowest-from has
+unfolding spot has
 two-spot = refl
 
 -- the lower four of a split, in order and with the new record first

@@ -33,6 +33,7 @@ slot ns = word-of (length ns ∷ ns)
 abbrev pub entries : ℕ
 entries = 7
 
--- "the lowest-numbered unused entry"
-abbrev pub spot : List ℕ → ℕ
+-- "the lowest-numbered unused entry" beside the named ones. Whoever opens it sees it computed.
+unfoldable pub spot : List ℕ → ℕ
+unfolding lowest-from
 spot ns = lowest-from 0 entries ns

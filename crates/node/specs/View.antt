@@ -6,7 +6,7 @@ use lib.ListN.{length}
 use Rattle.words.specs.Tests.{within}
 use Rattle.words.specs.Pool.{node-at}
 use Rattle.words.specs.Event.{at}
-use Rattle.node.specs.Lists.{all-below, different, rising, covered}
+use Rattle.node.specs.Lists.{all-below, different, rising, covered, below}
 use Rattle.node.specs.Slot.{names, entries}
 
 -- "Word 0 of a node is the slot word", "Word 1 is the next leaf (0 for none) in a leaf, the leftmost child in an inner node"
@@ -43,6 +43,10 @@ view m k =
 
 abbrev pub keys : List Record → List ℕ
 keys rs = map (λ (r : Record). r .0) rs
+
+-- the place of a key among those of a node
+abbrev pub rank : View → ℕ → ℕ
+rank u key = below key (keys (u .records))
 
 -- "A node is sound when its count is at most 7 (at least 1 if inner), its named entries are at most 6 and all different, and keys
 -- rise strictly." The least is 0 for a leaf and 1 for an inner node.

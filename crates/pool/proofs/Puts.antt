@@ -31,8 +31,8 @@ module _ {u : View} {w key place : ℕ} (s : Says u w key place) (k value : ℕ)
       → x ≡ key-at k e → v ≡ value-at k e → f ≡ line v → a ≡ slot-at k → b ≡ slot (insert place e (names w))
       → Wrote (store x key ∷ []) 0 l n₁ l₁ → Wrote (store v value ∷ []) n₁ l₁ n₂ l₂ → Wrote (flush f ∷ []) n₂ l₂ n₃ l₃
       → Wrote (fence ∷ []) n₃ l₃ n₄ l₄ → Wrote (once a b) n₄ l₄ n l₅ → Wrote (fill-events k u (key, value)) 0 l n l₅
-  filled {e} lowest x v f a b c₁ c₂ c₃ c₄ c₅ =
-      rw (s .names-are, s .rank-is, ← lowest, entry-stored k e (key, value), ← b, ← x, ← v, ← f, ← a)
+  filled {e} spot-is x v f a b c₁ c₂ c₃ c₄ c₅ =
+      rw (s .names-are, s .rank-is, ← spot-is, entry-stored k e (key, value), ← b, ← x, ← v, ← f, ← a)
       (wrote-append c₁ (wrote-append c₂ (wrote-append c₃ (wrote-append c₄ c₅))))
 
 -- the returns of a leaf that has the key, or room for it

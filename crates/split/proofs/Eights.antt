@@ -10,17 +10,18 @@ use borrow.Author.Tests.{eqb-true, eq-eqb, ne-eqb, lt-ltb, le-leb}
 use Rattle.words.specs.Event.{at}
 use Rattle.node.specs.Lists.{insert, all-below, covered}
 use Rattle.node.specs.Slot.{bytes, names, count, entries, slot, spot}
-use Rattle.node.specs.View.{Record, view, keys, entry, slot-at, key-at, good, no-end}
+use Rattle.node.specs.View.{Record, view, keys, rank, entry, slot-at, key-at, good, no-end}
 use Rattle.node.specs.inner.Looked.{Inside}
 use Rattle.node.proofs.Digits.{bytes-take}
 use Rattle.node.proofs.Places.{length-insert, getD-insert}
 use Rattle.node.proofs.Every.{below-insert, below-at}
 use Rattle.node.proofs.Ranks.{below-length}
 use Rattle.node.proofs.Slots.{length-names}
-use Rattle.node.proofs.Spots.{lowest-below}
+use Rattle.node.proofs.Spots.{spot-below}
 use Rattle.node.proofs.Views.{key-of, Good, good-parts, parts-good, view-names, view-keys, view-length}
 use Rattle.tree.specs.Kids.{leaf-least}
-use Rattle.change.specs.Steps.{rank, full, lower, lower-slot}
+use Rattle.tree.specs.Halves.{lower}
+use Rattle.change.specs.Steps.{full, lower-slot}
 use Rattle.change.proofs.Counts.{length-eight}
 use Rattle.split.specs.declared.opening.Eight.{Eight}
 use Rattle.split.specs.inner.Splitting.{Met, Named, Opened, new-of, eight-of}
@@ -121,7 +122,7 @@ module _ {m : List ℕ} {f : Eight} (o : Opened m f) where
 
   pub spot-low : f .spot < entries
   spot-low = rw (o .spot-is)
-      (lowest-below entries (take (lower - 1) (view m (f .node) .named))
+      (spot-below (take (lower - 1) (view m (f .node) .named))
       (rw (length-take-le (lower - 1) (view m (f .node) .named) (omega (arith, length-seven))) (omega arith)))
 
   pub name-low : (i : ℕ) → i < 8 → getD (bytes 8 (f .names)) i 0 < entries

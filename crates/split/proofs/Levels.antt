@@ -16,12 +16,13 @@ use Rattle.words.specs.Written.{written, Wrote}
 use Rattle.words.proofs.Written.{wrote-append}
 use Rattle.node.specs.Lists.{insert}
 use Rattle.node.specs.Slot.{bytes, names, slot, spot}
-use Rattle.node.specs.View.{Record, view, slot-at, link-at}
+use Rattle.node.specs.View.{Record, view, rank, slot-at, link-at}
 use Rattle.node.proofs.Views.{view-names}
-use Rattle.tree.specs.Header.{root-of}
-use Rattle.change.specs.Steps.{rank, full, entry-pairs, eight, fifth, lower, new-node, lower-slot, staying-pairs}
+use Rattle.tree.specs.Header.{used-of, root-of}
+use Rattle.tree.specs.Halves.{eight, lower, upper-four, fifth, upper-three, supply, used-with}
+use Rattle.change.specs.Steps.{full, entry-pairs, new-node, lower-slot, staying-pairs}
 use Rattle.change.specs.Plan.{new-nodes}
-use Rattle.change.specs.Put.{supply, used-with, rise, split}
+use Rattle.change.specs.Put.{rise, split}
 use Rattle.change.proofs.Lines.{node-events}
 use Rattle.change.proofs.Counts.{length-eight}
 use Rattle.split.specs.declared.opening.Eight.{Eight}
@@ -42,17 +43,17 @@ stays o ws e a b = rw (← e, ← o .rank-is, ← o .spot-is) (noted-append a b)
 
 -- a split level, from what its calls have done: the eight opened, the fifth read, the new node written, the pairs noted
 module _ {m : List ℕ} {k w rank : ℕ} (new : ℕ) {f : Eight} (u : Up) (o : Opened m f) (b : Named k w rank (u .key) (u .child) f)
-    {x y : ℕ} (q : (x, y) ≡ getD (eight-of m f) lower (0, 0)) where
+    {x y : ℕ} (q : (x, y) ≡ fifth (view m (f .node)) (new-of f)) where
   pub inner-level : {n c c₁ z : ℕ} {l l₁ g g₁ g₂ : List ℕ}
-      → Wrote (stores (new-node new y (drop (lower + 1) (eight-of m f))) ++ (flush (line (slot-at new)) ∷ [])) (u .events) l n l₁
-      → Noted (if-stays f) (u .pairs) g c g₁ → z ≡ slot (bytes lower (f .names)) → Noted ((slot-at k, z) ∷ []) c g₁ c₁ g₂
-      → InnerLevel m k new u l g (record { key = x; child = new; events = n; pairs = c₁ }) l₁ g₂
+      → Wrote (stores (new-node new y (upper-three (view m (f .node)) (new-of f))) ++ (flush (line (slot-at new)) ∷ []))
+      (u .events) l n l₁ → Noted (if-stays f) (u .pairs) g c g₁ → z ≡ slot (bytes lower (f .names))
+      → Noted ((slot-at k, z) ∷ []) c g₁ c₁ g₂ → InnerLevel m k new u l g (record { key = x; child = new; events = n; pairs = c₁ }) l₁ g₂
   inner-level {n} {c₁ = c₁} {l = l} {l₁} {g} {g₂ = g₂} a d e h =
       let v = view m (f .node) in
-      let few : length (drop (lower + 1) (eight-of m f)) ≤ 3 = rw (length-drop (lower + 1) (eight-of m f), opened-eight o) (omega arith) in
-      let made : Level (new-node new (fifth v (new-of f) .1) (drop (lower + 1) (eight-of m f))) (staying-pairs (f .node) v (new-of f) [])
+      let few : length (upper-three v (new-of f)) ≤ 3 = rw (length-drop (lower + 1) (eight-of m f), opened-eight o) (omega arith) in
+      let made : Level (new-node new (fifth v (new-of f) .1) (upper-three v (new-of f))) (staying-pairs (f .node) v (new-of f) [])
       (fifth v (new-of f) .0) new u l g (record { key = x; child = new; events = n; pairs = c₁ }) l₁ g₂ = record {
-        wrote = rw (← ap (λ (r : Record). r .1) q) (one-line new y (drop (lower + 1) (eight-of m f)) few a);
+        wrote = rw (← ap (λ (r : Record). r .1) q) (one-line new y (upper-three v (new-of f)) few a);
         noted = stays o [] (e ∙ slot-lower o) d (rw (← b .node-is) at h);
         key-is = ap (λ (r : Record). r .0) q;
         child-is = refl;
@@ -60,18 +61,18 @@ module _ {m : List ℕ} {k w rank : ℕ} (new : ℕ) {f : Eight} (u : Up) (o : O
       rw (b .node-is, b .key-is, b .value-is) at made
 
   pub leaf-level : {link n n₁ c c₁ c₂ z : ℕ} {l l₁ l₂ g g₁ g₂ g₃ : List ℕ} → link ≡ at m (link-at k)
-      → Wrote (stores (new-node new link (drop lower (eight-of m f))) ++ (flush (line (slot-at new)) ∷ [])) (u .events) l n l₁
-      → Wrote (flush (line (slot-at new) + 1) ∷ []) n l₁ n₁ l₂ → Noted (if-stays f) (u .pairs) g c g₁
+      → Wrote (stores (new-node new link (upper-four (view m (f .node)) (new-of f))) ++ (flush (line (slot-at new)) ∷ []))
+      (u .events) l n l₁ → Wrote (flush (line (slot-at new) + 1) ∷ []) n l₁ n₁ l₂ → Noted (if-stays f) (u .pairs) g c g₁
       → Noted ((link-at k, new) ∷ []) c g₁ c₁ g₂ → z ≡ slot (bytes lower (f .names)) → Noted ((slot-at k, z) ∷ []) c₁ g₂ c₂ g₃
       → LeafLevel m k new u l g (record { key = x; child = new; events = n₁; pairs = c₂ }) l₂ g₃
   unfolding view
   leaf-level {link} {n₁ = n₁} {c₂ = c₂} {l = l} {l₂ = l₂} {g} {g₃ = g₃} i a a₁ d t e h =
       let v = view m (f .node) in
-      let four : length (drop lower (eight-of m f)) ≡ 4 = rw (length-drop lower (eight-of m f), opened-eight o) in
-      let made : Level (new-node new (at m (link-at k)) (drop lower (eight-of m f)))
+      let four : length (upper-four v (new-of f)) ≡ 4 = rw (length-drop lower (eight-of m f), opened-eight o) in
+      let made : Level (new-node new (at m (link-at k)) (upper-four v (new-of f)))
       (staying-pairs (f .node) v (new-of f) ((link-at (f .node), new) ∷ []))
       (fifth v (new-of f) .0) new u l g (record { key = x; child = new; events = n₁; pairs = c₂ }) l₂ g₃ = record {
-        wrote = rw (← i) (two-lines new link (drop lower (eight-of m f)) four a a₁);
+        wrote = rw (← i) (two-lines new link (upper-four v (new-of f)) four a a₁);
         noted = stays o ((link-at (f .node), new) ∷ []) (e ∙ slot-lower o) d (rw (← b .node-is) at (noted-append t h));
         key-is = ap (λ (r : Record). r .0) q;
         child-is = refl;
@@ -122,22 +123,25 @@ path-above path height some = let e : height - (height - 1) ≡ 1 = omega arith 
 -- what goes up into a full node, a node with room, or above the root
 module _ (m : List ℕ) (i : ℕ) {u : Up} {l g : List ℕ} where
   pub rise-full : (k : ℕ) (above : List ℕ) {j : ℕ} {r : Up} {t : Tally} {l₁ g₁ l₂ g₂ : List ℕ} → full (view m k) ≡ true → j ≡ i + 1
-      → InnerLevel m k (supply m i) u l g r l₁ g₁ → Done (rise m above (up-of r) j) r l₁ g₁ t l₂ g₂
+      → InnerLevel m k (supply (used-of m) i) u l g r l₁ g₁ → Done (rise m above (up-of r) j) r l₁ g₁ t l₂ g₂
       → Done (rise m (k ∷ above) (up-of u) i) u l g t l₂ g₂
   unfolding rise new-nodes
   rise-full k above e q v d =
       let d′ = rw (v .key-is, v .child-is, q) at d in
       rw e (record { wrote = wrote-append (v .wrote) (d′ .wrote); noted = noted-append (v .noted) (d′ .noted) })
 
-  pub rise-room : (k : ℕ) (above : List ℕ) {used c : ℕ} {g₁ : List ℕ} → full (view m k) ≡ false → used ≡ used-with m i
+  pub rise-room : (k : ℕ) (above : List ℕ) {used c : ℕ} {g₁ : List ℕ} → full (view m k) ≡ false → used ≡ used-with (used-of m) i
       → Noted (parent-pairs m k used u) (u .pairs) g c g₁
       → Done (rise m (k ∷ above) (up-of u) i) u l g (record { events = u .events; pairs = c }) l g₁
   unfolding rise new-nodes written
   rise-room k above e q a = rw e (record { wrote = record { next = omega arith; list = refl }; noted = rw (← q) a })
 
-  pub rise-top : {t : Tally} {l₁ g₁ : List ℕ} → Done (new-root m (supply m i) u) u l g t l₁ g₁ → Done (rise m [] (up-of u) i) u l g t l₁ g₁
+  pub rise-top : {t : Tally} {l₁ g₁ : List ℕ} → Done (new-root m (supply (used-of m) i) u) u l g t l₁ g₁
+      → Done (rise m [] (up-of u) i) u l g t l₁ g₁
   unfolding rise
-  rise-top d = let e : used-with m (i + 1) ≡ supply m i = omega arith in record { wrote = d .wrote; noted = rw e (d .noted) }
+  rise-top d =
+      let e : used-with (used-of m) (i + 1) ≡ supply (used-of m) i = omega arith in
+      record { wrote = d .wrote; noted = rw e (d .noted) }
 
 -- the pairs of the node with room, from what its calls have noted
 pub takes : (m : List ℕ) (k used : ℕ) (u : Up) {w r e c c₁ c₂ c₃ : ℕ} {g g₁ g₂ g₃ : List ℕ} → w ≡ at m (slot-at k)
@@ -154,10 +158,10 @@ unfolding new-nodes
 crowned m new a b = record { wrote = rw append-nil a; noted = b }
 
 pub split-done : (m : List ℕ) (k : ℕ) (above : List ℕ) {new j : ℕ} {u r : Up} {t : Tally} {l g l₁ g₁ l₂ g₂ : List ℕ}
-    → new ≡ supply m 0 → j ≡ 1 → LeafLevel m k new u l g r l₁ g₁ → Done (rise m above (up-of r) j) r l₁ g₁ t l₂ g₂
+    → new ≡ supply (used-of m) 0 → j ≡ 1 → LeafLevel m k new u l g r l₁ g₁ → Done (rise m above (up-of r) j) r l₁ g₁ t l₂ g₂
     → Done (split m k above (up-of u)) u l g t l₂ g₂
 unfolding split new-nodes
 split-done m k above {u = u} {r} {l = l} {g} {l₁} {g₁} e q v d =
-    let v′ : LeafLevel m k (supply m 0) u l g r l₁ g₁ = rw e at v in
+    let v′ : LeafLevel m k (supply (used-of m) 0) u l g r l₁ g₁ = rw e at v in
     let d′ = rw (v′ .key-is, v′ .child-is, q) at d in
     record { wrote = wrote-append (v′ .wrote) (d′ .wrote); noted = noted-append (v′ .noted) (d′ .noted) }

@@ -12,11 +12,12 @@ use Rattle.words.proofs.Written.{wrote-append}
 use Rattle.node.specs.View.{Record, view, link-at}
 use Rattle.tree.specs.Header.{used-of, height-of}
 use Rattle.tree.specs.Lists.{Each}
+use Rattle.tree.specs.Halves.{lower, fifth, supply, used-with}
 use Rattle.tree.proofs.Form.{form, counts}
-use Rattle.change.specs.Steps.{full, fifth, lower}
+use Rattle.change.specs.Steps.{full}
 use Rattle.change.specs.Plan.{Plan, log-events, plan-events}
 use Rattle.change.specs.Recover.{log-pairs}
-use Rattle.change.specs.Put.{supply, used-with, rise, split, needed}
+use Rattle.change.specs.Put.{rise, split, needed}
 use Rattle.change.specs.Most.{split-levels}
 use Rattle.change.proofs.Counts.{staying-few, needed-full, needed-room, plan-count, counted, no-more, pairs-few}
 use Rattle.change.proofs.Most.{depth}
@@ -37,7 +38,7 @@ module _ {m path : List ℕ} {height left size : ℕ} {u : Up} (rd : Ready m pat
       let c = counts m (rd .counts) in
       (f .least, omega (arith, c .used, f .capacity, rd .high), c .height .1)
 
-  room-with : 1 ≤ needed m up-levels → Room (supply m (height - left)) u size
+  room-with : 1 ≤ needed m up-levels → Room (supply (used-of m) (height - left)) u size
   room-with h =
       let f = form m (rd .form) in
       record {
@@ -47,7 +48,7 @@ module _ {m path : List ℕ} {height left size : ℕ} {u : Up} (rd : Ready m pat
         words = rd .words;
       }
 
-  pub ready-top : left ≡ 0 → Room (supply m (height - left)) u size
+  pub ready-top : left ≡ 0 → Room (supply (used-of m) (height - left)) u size
   unfolding needed
   ready-top e = room-with (rw (levels-none path height left e) (omega arith))
 
@@ -67,7 +68,7 @@ module _ {m path : List ℕ} {height left size : ℕ} {u : Up} (rd : Ready m pat
     pub ready-pairs : u .pairs + 4 ≤ p.pairs-most
     ready-pairs = omega (arith, more, rd .pairs, rd .high, rd .some)
 
-    pub ready-room : {used c : ℕ} {l g g₁ : List ℕ} → full (view m here) ≡ false → used ≡ used-with m (height - left)
+    pub ready-room : {used c : ℕ} {l g g₁ : List ℕ} → full (view m here) ≡ false → used ≡ used-with (used-of m) (height - left)
         → Noted (parent-pairs m here used u) (u .pairs) g c g₁
         → Done (rise m (levels path height left) (up-of u) (height - left)) u l g (record { events = u .events; pairs = c }) l g₁
     ready-room e q a = rw level (rise-room m (height - left) here rest e q a)
@@ -76,14 +77,14 @@ module _ {m path : List ℕ} {height left size : ℕ} {u : Up} (rd : Ready m pat
       need : needed m (levels path height left) ≡ suc (needed m rest)
       need = ap (needed m) level ∙ needed-full m here rest t
 
-      pub ready-full : Room (supply m (height - left)) u size
+      pub ready-full : Room (supply (used-of m) (height - left)) u size
       ready-full = room-with (omega (arith, need))
 
       on : height - (left - 1) ≡ height - left + 1
       on = omega (arith, more, rd .some)
 
-      pub ready-on : {r : Up} {l g l₁ g₁ : List ℕ} {size′ : ℕ} → InnerLevel m here (supply m (height - left)) u l g r l₁ g₁ → size′ ≡ size
-          → Ready m path height (left - 1) r size′
+      pub ready-on : {r : Up} {l g l₁ g₁ : List ℕ} {size′ : ℕ} → InnerLevel m here (supply (used-of m) (height - left)) u l g r l₁ g₁
+          → size′ ≡ size → Ready m path height (left - 1) r size′
       ready-on v e = record {
         form = rd .form;
         counts = rd .counts;
@@ -98,12 +99,13 @@ module _ {m path : List ℕ} {height left size : ℕ} {u : Up} (rd : Ready m pat
           rd .events,
           on,
           v .wrote .next,
-          upper-events m here (supply m (height - left)) (fifth (view m here) (up-of u) .1) (lower + 1) (up-of u) t,
+          upper-events m here (supply (used-of m) (height - left)) (fifth (view m here) (up-of u) .1) (lower + 1) (up-of u) t,
         );
         pairs = omega (arith, rd .pairs, on, v .noted .next, staying-few here (view m here) (up-of u) []);
       }
 
-      pub ready-split : {r : Up} {k : Tally} {l g l₁ g₁ l₂ g₂ : List ℕ} → InnerLevel m here (supply m (height - left)) u l g r l₁ g₁
+      pub ready-split : {r : Up} {k : Tally} {l g l₁ g₁ l₂ g₂ : List ℕ}
+          → InnerLevel m here (supply (used-of m) (height - left)) u l g r l₁ g₁
           → Done (rise m rest (up-of r) (height - (left - 1))) r l₁ g₁ k l₂ g₂
           → Done (rise m (levels path height left) (up-of u) (height - left)) u l g k l₂ g₂
       ready-split v d = rw level (rise-full m (height - left) here rest t on v d)

@@ -16,7 +16,8 @@ ghost use Rattle.words.specs.Blocks.{stores, stored};
 ghost use Rattle.words.specs.Written.{Wrote};
 ghost use Rattle.node.specs.Slot.{slot, entries};
 ghost use Rattle.node.specs.View.{slot-at, link-at};
-ghost use Rattle.change.specs.Steps.{entry-pairs, laid, new-node, lower};
+ghost use Rattle.tree.specs.Halves.{lower};
+ghost use Rattle.change.specs.Steps.{entry-pairs, laid, new-node};
 ghost use Rattle.split.specs.inner.Splitting.{Opened, eight-of};
 
 // The slot word of `count` entries and word 1.

@@ -11,8 +11,7 @@ ghost use Prim.Native.Nat.{_≤_, _<_};
 ghost use lib.ListN.{getD};
 ghost use Rattle.words.specs.Event.{at};
 ghost use Rattle.node.specs.Slot as s;
-ghost use Rattle.node.specs.View.{view, slot-at};
-ghost use Rattle.change.specs.Steps.{rank};
+ghost use Rattle.node.specs.View.{view, rank, slot-at};
 ghost use Rattle.split.specs.inner.Splitting.{Met, Named, Opened, eight-of};
 
 // A full node, and a new record with its rank. The names are those of the eight: the new record has that of the spot which it takes if

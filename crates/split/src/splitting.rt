@@ -18,8 +18,8 @@ ghost use lib.ListN.{length, take, drop, getD};
 ghost use Rattle.words.specs.Event.{at};
 ghost use Rattle.words.specs.Written.{Wrote};
 ghost use Rattle.node.specs.Slot as s;
+ghost use Rattle.node.specs.View as views;
 ghost use Rattle.node.specs.View.{view, slot-at};
-ghost use Rattle.change.specs.Steps as steps;
 ghost use Rattle.change.specs.Plan.{plan-events};
 ghost use Rattle.change.specs.Put.{split};
 ghost use Rattle.split.specs.inner.Splitting.{Met, Room, LeafLevel, ToSplit};
@@ -36,7 +36,7 @@ fn split_leaf(
     up: Up,
 ) -> Up
     requires { ⌜ Met (now pool) k × (w ≡ at (now pool) (slot-at k)) × (s.count w ≡ s.entries) × Room new up (length (now list)) ⌝ }
-    requires { ⌜ rank ≡ steps.rank (view (now pool) k) (up .key) ⌝ }
+    requires { ⌜ rank ≡ views.rank (view (now pool) k) (up .key) ⌝ }
     ensures { λ r. ⌜ LeafLevel (now (pool .entry)) k new up
         (now (list .entry)) (now (log .entry)) r (now (list .exit)) (now (log .exit)) ⌝ }
 {

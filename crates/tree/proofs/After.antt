@@ -10,14 +10,14 @@ use lib.ListN.{length, set, length-append, length-take, length-drop, length-set}
 use Rattle.words.specs.Tests.{if_then_else_}
 use Rattle.words.specs.Pool.{commit-at}
 use Rattle.words.specs.Event.{at}
-use Rattle.node.specs.Lists.{insert, remove, has, below}
+use Rattle.node.specs.Lists.{remove, has}
 use Rattle.node.specs.Slot.{entries}
-use Rattle.node.specs.View.{Record, view, keys}
-use Rattle.node.proofs.Places.{length-insert}
+use Rattle.node.specs.View.{Record, view, keys, rank}
 use Rattle.tree.specs.Header.{used-of}
 use Rattle.tree.specs.Kids.{fits, leaf-least}
 use Rattle.tree.specs.WellFormed.{WellFormed}
 use Rattle.tree.specs.Map.{Map, find, records-of, map-of}
+use Rattle.tree.specs.Halves.{eight}
 use Rattle.tree.proofs.Keys.{rise-insert, rise-remove, keys-set}
 use Rattle.tree.proofs.Fits.{Node, fits-says, Says, says-fits, view-sized}
 use Rattle.tree.proofs.Form.{header-well-formed, header-records}
@@ -25,6 +25,7 @@ use Rattle.tree.proofs.Find.{find-changed, find-insert, find-set, find-
 use Rattle.tree.proofs.Way.{Reached}
 use Rattle.tree.proofs.Map.{records-left, records-right, records-at, miss-left, miss-right}
 use Rattle.tree.proofs.Leaf.{leaf-whole, leaf-records}
+use Rattle.tree.proofs.Eight.{eight-more}
 
 -- a map with what it holds under a key changed
 abbrev pub with-key : ℕ → Option ℕ → Map → Map
@@ -75,17 +76,17 @@ module _ {m m′ : List ℕ} {key : ℕ} (w : WellFormed m) (y : Reached m key) 
 
   -- a record put into a leaf with room
   pub put-after : (v : ℕ) → has key (keys rs) ≡ false → length (view m k .named) < entries
-      → Says (view m′) k (view m k .link) (insert (below key (keys rs)) (key, v) rs) → After m m′ key (some v)
+      → Says (view m′) k (view m k .link) (eight (view m k) (key, v)) → After m m′ key (some v)
   put-after v absent room s =
       leaf-after (some v)
-      (says-fits s (omega arith) (omega (arith, length-insert (below key (keys rs)) (key, v) rs, view-sized m k))
+      (says-fits s (omega arith) (omega (arith, eight-more (view m k) (key, v), view-sized m k))
       (rise-insert (key, v) rs (node .rises) (y .from) (y .upto) absent))
       (s .links)
       (λ q. rw (s .holds) (find-insert key v rs q))
 
   module _ (present : has key (keys rs) ≡ true) where
     -- a value replaced
-    pub replace-after : (v : ℕ) → Says (view m′) k (view m k .link) (set rs (below key (keys rs)) (key, v)) → After m m′ key (some v)
+    pub replace-after : (v : ℕ) → Says (view m′) k (view m k .link) (set rs (rank (view m k) key) (key, v)) → After m m′ key (some v)
     replace-after v s =
         leaf-after (some v)
         (says-fits s (omega arith) (rw length-set few) (rw (keys-set key v rs (node .rises) present) (node .rises)))
@@ -93,10 +94,10 @@ module _ {m m′ : List ℕ} {key : ℕ} (w : WellFormed m) (y : Reached m key) 
         (λ q. rw (s .holds) (find-set key v rs (node .rises) present q))
 
     -- a record deleted
-    pub delete-after : Says (view m′) k (view m k .link) (remove (below key (keys rs)) rs) → After m m′ key none
+    pub delete-after : Says (view m′) k (view m k .link) (remove (rank (view m k) key) rs) → After m m′ key none
     delete-after s =
         leaf-after none
         (says-fits s (omega arith) (rw (length-append, length-take, length-drop) (omega (arith, few)))
-        (rise-remove (below key (keys rs)) rs (node .rises)))
+        (rise-remove (rank (view m k) key) rs (node .rises)))
         (s .links)
         (λ q. rw (s .holds) (find-remove key rs (node .rises) present q))

@@ -7,8 +7,8 @@ use mathlib.Core.Bool.{true, false}
 use mathlib.Core.Option.{none, some}
 use native.Mathlib.Omega.{arith}
 use lib.ListN.{getD}
-use Rattle.node.specs.Lists.{has, below}
-use Rattle.node.specs.View.{Record, view, keys}
+use Rattle.node.specs.Lists.{has}
+use Rattle.node.specs.View.{Record, view, keys, rank}
 use Rattle.node.proofs.Views.{good-parts}
 use Rattle.tree.specs.Kids.{Kid, kids-from, leaf-least, below-root-least}
 use Rattle.tree.specs.Lists.{gather, Each}
@@ -112,8 +112,7 @@ module _ {m : List ℕ} {key : ℕ} (y : Reached m key) where
 
   -- a key that is in the leaf is held with the value at its rank, one that is not is not held
   pub map-present : has key (keys (view m (y .place .number) .records)) ≡ true
-      → map-of m key
-      ≡ some (getD (view m (y .place .number) .records) (below key (keys (view m (y .place .number) .records))) (0, 0) .1)
+      → map-of m key ≡ some (getD (view m (y .place .number) .records) (rank (view m (y .place .number)) key) (0, 0) .1)
   map-present h =
       map-at ∙ find-present key (view m (y .place .number) .records) (good-parts (y .fit) .keys-rise) h
 

@@ -11,6 +11,7 @@ use Rattle.node.specs.View.{Record, keys, no-end}
 use Rattle.tree.specs.Kids.{Kid, kid, kids-from, fits, inner-least, below-root-least}
 use Rattle.tree.specs.Lists.{gather, Each, one, occ}
 use Rattle.tree.specs.WellFormed.{Views, kids-of, AllFit, nums, leaves}
+use Rattle.tree.specs.Halves.{eight, lower-four, fifth, upper-three, supply}
 use Rattle.tree.proofs.Lists.{gather-append, each-append, each-left, each-right, occ-append}
 use Rattle.tree.proofs.Keys.{Rise, rise-none, rise-more, rise-from, last-key, first-key}
 use Rattle.tree.proofs.Fits.{Node, fits-says, Says, says-fits, Sized}
@@ -18,26 +19,21 @@ use Rattle.tree.proofs.Frame.{On}
 use Rattle.tree.proofs.Hole.{Level, least, above, lefts-of, rights-of, Holds, Around, top, under, beside, leaves-left}
 use Rattle.tree.proofs.Hole.{leaves-right, occ-beside, around-nums, around-leaves, around-fit, SameAround, on-lefts}
 use Rattle.tree.proofs.Hole.{on-rights, on-rest, same-around, around-same}
-use Rattle.tree.proofs.Eight.{with-record, lower-four, fifth-of, upper-three, Eight, eight-parts, gap-rises, gap-kids}
-use Rattle.tree.proofs.Eight.{with-length}
-
--- "New nodes are numbered used + 1 upward": the new node that comes after i others
-abbrev pub fresh : ℕ → ℕ → ℕ
-fresh used i = used + 1 + i
+use Rattle.tree.proofs.Eight.{Eight, eight-parts, gap-rises, gap-kids, eight-more}
 
 -- what the nodes above have become: the record r, a key and a child, goes up into them, with i new nodes made so far. Then there are d
 -- of them, and the root is root′, H′ levels above the leaves.
 pub data Grown (U U′ : Views) (used root H : ℕ) : List ℕ → Record → ℕ → ℕ → ℕ → ℕ → Type 0 where
   -- a new root
-  crowned : {r : Record} {i : ℕ} → Says U′ (fresh used i) root (r ∷ []) → Grown U U′ used root H [] r i (i + 1) (fresh used i) (suc H)
+  crowned : {r : Record} {i : ℕ} → Says U′ (supply used i) root (r ∷ []) → Grown U U′ used root H [] r i (i + 1) (supply used i) (suc H)
   -- a node with room took r in, and those above it are the same
-  took : {k : ℕ} {ks : List ℕ} {r : Record} {i : ℕ} → length (U k .named) < entries → Says U′ k (U k .link) (with-record (U k) r)
+  took : {k : ℕ} {ks : List ℕ} {r : Record} {i : ℕ} → length (U k .named) < entries → Says U′ k (U k .link) (eight (U k) r)
       → On U U′ ks → Grown U U′ used root H (k ∷ ks) r i i root H
   -- a full node was split: the lower four stay, the fifth's key goes up with the new node, which has the upper three
   halved : {k : ℕ} {ks : List ℕ} {r : Record} {i d root′ H′ : ℕ} → length (U k .named) ≡ entries
-      → Says U′ k (U k .link) (lower-four (with-record (U k) r))
-      → Says U′ (fresh used i) (fifth-of (with-record (U k) r) .1) (upper-three (with-record (U k) r))
-      → Grown U U′ used root H ks (fifth-of (with-record (U k) r) .0, fresh used i) (i + 1) d root′ H′
+      → Says U′ k (U k .link) (lower-four (U k) r)
+      → Says U′ (supply used i) (fifth (U k) r .1) (upper-three (U k) r)
+      → Grown U U′ used root H ks (fifth (U k) r .0, supply used i) (i + 1) d root′ H′
       → Grown U U′ used root H (k ∷ ks) r i d root′ H′
 
 -- the child in the hole became two at the record r
@@ -54,7 +50,7 @@ pub record Came (U U′ : Views) (used h : ℕ) (ls : List Level) (a b : Kid) (i
   pub fit : AllFit U′ inner-least H′ r′
   pub leaves-are : leaves U′ H′ r′ ≡ leaves-left U h ls ++ ((leaves U′ h a ++ leaves U′ h b) ++ leaves-right U h ls)
   pub nums-are : (j : ℕ) → occ j (nums U′ H′ r′)
-      ≡ occ j (nums U′ h a) + occ j (nums U′ h b) + occ j (above ls) + occ j (beside U h ls) + occ j (count-from (fresh used i) made)
+      ≡ occ j (nums U′ h a) + occ j (nums U′ h b) + occ j (above ls) + occ j (beside U h ls) + occ j (count-from (supply used i) made)
 
 -- a level whose hole now has two children, a and b
 module _ (U U′ : Views) {q h : ℕ} {c : Kid} {l : Level} (ls : List Level) (a b : Kid) (x : Holds U q h c l)
@@ -85,11 +81,11 @@ module _ (U U′ : Views) (sized : Sized U) (used root H : ℕ) where
   top-kid = kid root 0 no-end
 
   -- a new root above the old one
-  crown : {r : Record} {i : ℕ} → Says U′ (fresh used i) root (r ∷ []) → r .0 < no-end
+  crown : {r : Record} {i : ℕ} → Says U′ (supply used i) root (r ∷ []) → r .0 < no-end
       → AllFit U′ below-root-least H (low-kid top-kid r) → AllFit U′ below-root-least H (high-kid top-kid r)
-      → Came U U′ used H [] (low-kid top-kid r) (high-kid top-kid r) i (i + 1) (suc H) (kid (fresh used i) 0 no-end)
+      → Came U U′ used H [] (low-kid top-kid r) (high-kid top-kid r) i (i + 1) (suc H) (kid (supply used i) 0 no-end)
   crown {r} {i} g p fa fb =
-      let ks : kids-of U′ (kid (fresh used i) 0 no-end) ≡ low-kid top-kid r ∷ high-kid top-kid r ∷ [] = rw (g .links, g .holds) in
+      let ks : kids-of U′ (kid (supply used i) 0 no-end) ≡ low-kid top-kid r ∷ high-kid top-kid r ∷ [] = rw (g .links, g .holds) in
       record {
         made = 1;
         total = refl;
@@ -112,7 +108,7 @@ module _ (U U′ : Views) (sized : Sized U) (used root H : ℕ) where
     hi = l .node .upto
 
     abbrev all : List Record
-    all = with-record (U k) r
+    all = eight (U k) r
 
     abbrev two : List Kid
     two = lefts-of U l ++ (low-kid c r ∷ high-kid c r ∷ rights-of U l)
@@ -133,7 +129,7 @@ module _ (U U′ : Views) (sized : Sized U) (used root H : ℕ) where
     all-kids = gap-kids (U k) r (l .left) (l .right) (x .parts) (node .rises) p₁ p₂ (U k .link) ∙ rw (x .here)
 
     all-length : length all ≡ suc (length (U k .named))
-    all-length = with-length (U k) r ∙ omega (arith, sized k)
+    all-length = eight-more (U k) r ∙ omega (arith, sized k)
 
     two-fit : Each (AllFit U′ below-root-least h) two
     two-fit = more-fit U U′ ls (low-kid c r) (high-kid c r) x o fa fb
@@ -159,13 +155,13 @@ module _ (U U′ : Views) (sized : Sized U) (used root H : ℕ) where
         }
 
     -- it is full
-    module _ (full : length (U k .named) ≡ entries) (s : Says U′ k (U k .link) (lower-four all))
-        (t : Says U′ (fresh used i) (fifth-of all .1) (upper-three all)) where
+    module _ (full : length (U k .named) ≡ entries) (s : Says U′ k (U k .link) (lower-four (U k) r))
+        (t : Says U′ (supply used i) (fifth (U k) r .1) (upper-three (U k) r)) where
       abbrev e : Record
-      e = (fifth-of all .0, fresh used i)
+      e = (fifth (U k) r .0, supply used i)
 
-      parts : Eight lo hi all
-      parts = eight-parts all (omega (arith, all-length)) all-rises
+      parts : Eight lo hi (U k) r
+      parts = eight-parts (U k) r (omega (arith, all-length)) all-rises
 
       kids-two : kids-of U′ (low-kid (l .node) e) ++ kids-of U′ (high-kid (l .node) e) ≡ two
       kids-two = rw (s .links, s .holds, t .links, t .holds) (sym (parts .kids (U k .link)) ∙ all-kids)
@@ -189,13 +185,13 @@ module _ (U U′ : Views) (sized : Sized U) (used root H : ℕ) where
       two-leaves = rw (← gather-append, kids-two)
 
       two-nums : (j : ℕ) → occ j (nums U′ (suc h) (low-kid (l .node) e)) + occ j (nums U′ (suc h) (high-kid (l .node) e))
-          ≡ one j k + one j (fresh used i) + occ j (gather (nums U′ h) two)
+          ≡ one j k + one j (supply used i) + occ j (gather (nums U′ h) two)
       two-nums j = rw (← kids-two, gather-append, occ-append) (omega arith)
 
       halve : {d H′ : ℕ} {r′ : Kid} → Came U U′ used (suc h) ls (low-kid (l .node) e) (high-kid (l .node) e) (i + 1) d H′ r′
           → Came U U′ used h (l ∷ ls) (low-kid c r) (high-kid c r) i d H′ r′
       halve g =
-          let n : fresh used (i + 1) ≡ fresh used i + 1 = omega arith in
+          let n : supply used (i + 1) ≡ supply used i + 1 = omega arith in
           record {
             made = suc (g .made);
             total = omega (arith, g .total);
@@ -215,6 +211,6 @@ module _ (U U′ : Views) (sized : Sized U) (used root H : ℕ) where
   rise-law {h} {i} r (under {l = l} {ls = ls} x y) (halved full s t g) o p p′ fa fb =
       let w = parts ls r i x o p p′ fa fb full s t in
       halve ls r i x o p p′ fa fb full s t
-      (rise-law (fifth-of (with-record (U (l .node .number)) r) .0, fresh used i) y g (on-rest U U′ h l ls o)
+      (rise-law (fifth (U (l .node .number)) r .0, supply used i) y g (on-rest U U′ h l ls o)
       (omega (arith, w .cut .over, w .four)) (w .cut .under) (low-fit ls r i x o p p′ fa fb full s t)
       (high-fit ls r i x o p p′ fa fb full s t))

@@ -6,7 +6,7 @@ use mathlib.Core.Bool.{false}
 use mathlib.Core.Option.{some}
 use native.Mathlib.Omega.{arith}
 use native.Mathlib.Decide.{decLe}
-use lib.ListN.{length, drop}
+use lib.ListN.{length}
 use borrow.Author.Tests.{eq-eqb, ne-eqb}
 use Rattle.words.specs.Pool.{used-at}
 use Rattle.words.specs.Event.{at}
@@ -19,6 +19,7 @@ use Rattle.tree.specs.Path.{levels-above}
 use Rattle.tree.specs.Lists.{occ}
 use Rattle.tree.specs.WellFormed.{Views, Whole, WellFormed}
 use Rattle.tree.specs.Map.{records-of}
+use Rattle.tree.specs.Halves.{eight, lower-four, upper-four, fifth, upper-three, supply, used-with}
 use Rattle.tree.proofs.Fits.{Says, view-sized}
 use Rattle.tree.proofs.Form.{Form, form, Counts, counts, counts-back, form-same}
 use Rattle.tree.proofs.Frame.{On, head-in}
@@ -27,8 +28,7 @@ use Rattle.tree.proofs.Find.{find-insert}
 use Rattle.tree.proofs.Way.{Reached}
 use Rattle.tree.proofs.Map.{records-left, records-right}
 use Rattle.tree.proofs.After.{After, changed-map}
-use Rattle.tree.proofs.Eight.{with-record, lower-four, fifth-of, upper-three}
-use Rattle.tree.proofs.Rise.{fresh, Grown, crowned, took, halved}
+use Rattle.tree.proofs.Rise.{Grown, crowned, took, halved}
 use Rattle.tree.proofs.Count.{nine-levels, needs}
 use Rattle.tree.proofs.Split.{Parted, split-whole, split-records}
 
@@ -45,16 +45,16 @@ pub record Risen (m m′ ks : List ℕ) (r : Record) (i : ℕ) : Type 0 where
   pub root : ℕ
   pub levels : ℕ
   pub grown : Grown (view m) (view m′) (used-of m) (root-of m) (levels-above m) ks r i made root levels
-  pub used-is : used-of m′ ≡ used-of m + made
+  pub used-is : used-of m′ ≡ used-with (used-of m) made
   pub root-is : root-of m′ ≡ root
   pub height-is : height-of m′ ≡ levels + 1
 
 module _ {m m′ : List ℕ} {r : Record} {i : ℕ} where
-  pub risen-root : 1 ≤ height-of m → Says (view m′) (fresh (used-of m) i) (root-of m) (r ∷ []) → used-of m′ ≡ used-of m + (i + 1)
-      → root-of m′ ≡ fresh (used-of m) i → height-of m′ ≡ height-of m + 1 → Risen m m′ [] r i
+  pub risen-root : 1 ≤ height-of m → Says (view m′) (supply (used-of m) i) (root-of m) (r ∷ [])
+      → used-of m′ ≡ used-with (used-of m) (i + 1) → root-of m′ ≡ supply (used-of m) i → height-of m′ ≡ height-of m + 1 → Risen m m′ [] r i
   risen-root p s u t h = record {
     made = i + 1;
-    root = fresh (used-of m) i;
+    root = supply (used-of m) i;
     levels = suc (levels-above m);
     grown = crowned s;
     used-is = u;
@@ -64,8 +64,8 @@ module _ {m m′ : List ℕ} {r : Record} {i : ℕ} where
 
   module _ {k : ℕ} {ks : List ℕ} where
     pub risen-room : 1 ≤ height-of m → length (view m k .named) < entries
-        → Says (view m′) k (view m k .link) (with-record (view m k) r) → On (view m) (view m′) ks
-        → used-of m′ ≡ used-of m + i → root-of m′ ≡ root-of m → height-of m′ ≡ height-of m → Risen m m′ (k ∷ ks) r i
+        → Says (view m′) k (view m k .link) (eight (view m k) r) → On (view m) (view m′) ks
+        → used-of m′ ≡ used-with (used-of m) i → root-of m′ ≡ root-of m → height-of m′ ≡ height-of m → Risen m m′ (k ∷ ks) r i
     risen-room p room s o u t h = record {
       made = i;
       root = root-of m;
@@ -76,9 +76,9 @@ module _ {m m′ : List ℕ} {r : Record} {i : ℕ} where
       height-is = omega arith;
     }
 
-    pub risen-full : length (view m k .named) ≡ entries → Says (view m′) k (view m k .link) (lower-four (with-record (view m k) r))
-        → Says (view m′) (fresh (used-of m) i) (fifth-of (with-record (view m k) r) .1) (upper-three (with-record (view m k) r))
-        → Risen m m′ ks (fifth-of (with-record (view m k) r) .0, fresh (used-of m) i) (i + 1) → Risen m m′ (k ∷ ks) r i
+    pub risen-full : length (view m k .named) ≡ entries → Says (view m′) k (view m k .link) (lower-four (view m k) r)
+        → Says (view m′) (supply (used-of m) i) (fifth (view m k) r .1) (upper-three (view m k) r)
+        → Risen m m′ ks (fifth (view m k) r .0, supply (used-of m) i) (i + 1) → Risen m m′ (k ∷ ks) r i
     risen-full full s t g = record {
       made = g .made;
       root = g .root;
@@ -89,10 +89,6 @@ module _ {m m′ : List ℕ} {r : Record} {i : ℕ} where
       height-is = g .height-is;
     }
 
--- the records of the leaf that is reached, with a new one
-abbrev pub leaf-with : {m : List ℕ} {key : ℕ} → Reached m key → ℕ → List Record
-leaf-with {m} {key} y v = with-record (view m (y .place .number)) (key, v)
-
 -- what a split leaves, with the leaf and the new leaf beside it
 pub record SplitTo (m m′ : List ℕ) {key : ℕ} (y : Reached m key) (v : ℕ) : Type 0 where
   pub size : length m′ ≡ length m
@@ -101,9 +97,9 @@ pub record SplitTo (m m′ : List ℕ) {key : ℕ} (y : Reached m key) (v : ℕ)
   pub off : (j : ℕ) → 1 ≤ j → j ≤ used-of m → occ j (y .place .number ∷ above (y .up)) ≡ 0 → view m′ j ≡ view m j
   pub full : length (view m (y .place .number) .named) ≡ entries
   pub absent : has key (keys (view m (y .place .number) .records)) ≡ false
-  pub low : Says (view m′) (y .place .number) (fresh (used-of m) 0) (lower-four (leaf-with y v))
-  pub high : Says (view m′) (fresh (used-of m) 0) (view m (y .place .number) .link) (drop 4 (leaf-with y v))
-  pub risen : Risen m m′ (above (y .up)) (fifth-of (leaf-with y v) .0, fresh (used-of m) 0) 1
+  pub low : Says (view m′) (y .place .number) (supply (used-of m) 0) (lower-four (view m (y .place .number)) (key, v))
+  pub high : Says (view m′) (supply (used-of m) 0) (view m (y .place .number) .link) (upper-four (view m (y .place .number)) (key, v))
+  pub risen : Risen m m′ (above (y .up)) (fifth (view m (y .place .number)) (key, v) .0, supply (used-of m) 0) 1
 
 module _ {m m′ : List ℕ} {key v : ℕ} (w : WellFormed m) (y : Reached m key) (s : SplitTo m m′ y v)
     (room : needs (view m) (y .place .number ∷ above (y .up)) ≤ capacity-of m - used-of m) where
@@ -116,7 +112,7 @@ module _ {m m′ : List ℕ} {key v : ℕ} (w : WellFormed m) (y : Reached m key
   parted : Parted (view m) (view m′) (used-of m) (y .place) (key, v)
   parted = record { full = s .full; absent = s .absent; from = y .from; upto = y .upto; low = s .low; high = s .high }
 
-  whole : Whole (view m′) (used-of m + d) (s .risen .levels) (s .risen .root)
+  whole : Whole (view m′) (used-with (used-of m) d) (s .risen .levels) (s .risen .root)
   whole = split-whole (view-sized m) (w .whole) (y .around) (y .fit) (s .off) parted (s .risen .grown)
 
   size-of : Form m
@@ -125,7 +121,7 @@ module _ {m m′ : List ℕ} {key v : ℕ} (w : WellFormed m) (y : Reached m key
   counts-are : Counts m
   counts-are = counts m (w .counts)
 
-  fits-in : used-of m + d ≤ capacity-of m
+  fits-in : used-with (used-of m) d ≤ capacity-of m
   fits-in =
       let r : suc (needs (view m) (above (y .up))) ≤ capacity-of m - used-of m =
       rw (eq-eqb (length (view m k .named)) entries (s .full)) at room in
@@ -138,10 +134,10 @@ module _ {m m′ : List ℕ} {key v : ℕ} (w : WellFormed m) (y : Reached m key
       go : Dec (s .risen .levels ≤ 7) → s .risen .levels ≤ 7
       go (yes p) = p
       go (no p) =
-          let n : 43691 ≤ used-of m + d = nine-levels (view-sized m′) whole (omega arith) in
+          let n : 43691 ≤ used-with (used-of m) d = nine-levels (view-sized m′) whole (omega arith) in
           absurd (omega (arith, fits-in, size-of .capacity))
 
-  root-range : (1 ≤ s .risen .root) × (s .risen .root ≤ used-of m + d)
+  root-range : (1 ≤ s .risen .root) × (s .risen .root ≤ used-with (used-of m) d)
   root-range = whole .only (s .risen .root) (head-in (view m′) (s .risen .levels) (kid (s .risen .root) 0 no-end))
 
   levels-are : levels-above m′ ≡ s .risen .levels
@@ -164,10 +160,10 @@ module _ {m m′ : List ℕ} {key v : ℕ} (w : WellFormed m) (y : Reached m key
       counts = counts-back m′ counts-after;
       whole = rw (s .risen .used-is, s .risen .root-is, levels-are) whole;
     };
-    map-is = changed-map m′ y (leaf-with y v) (some v) records-are (find-insert key v (view m k .records));
+    map-is = changed-map m′ y (eight (view m k) (key, v)) (some v) records-are (find-insert key v (view m k .records));
   }
     where
-      records-are : records-of m′ ≡ records-left y ++ (leaf-with y v ++ records-right y)
+      records-are : records-of m′ ≡ records-left y ++ (eight (view m k) (key, v) ++ records-right y)
       records-are =
           rw (s .risen .root-is, levels-are)
           (split-records (view-sized m) (w .whole) (y .around) (y .fit) (s .off) parted (s .risen .grown))

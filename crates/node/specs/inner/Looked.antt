@@ -7,8 +7,8 @@ use lib.ListN.{length}
 use lib.Dec.{ltb, eqb}
 use Rattle.words.specs.Tests.{if_then_else_}
 use Rattle.words.specs.Pool.{node-at, node-words, capacity-most}
-use Rattle.node.specs.Lists.{has, below, upto, last-of}
-use Rattle.node.specs.View.{View, keys, good, no-end}
+use Rattle.node.specs.Lists.{has, upto, last-of}
+use Rattle.node.specs.View.{View, keys, rank, good, no-end}
 use Rattle.node.specs.declared.cover.Cover.{Cover}
 use Rattle.node.specs.declared.cover.Look.{Look}
 use Rattle.node.specs.declared.cover.Place.{Place}
@@ -36,5 +36,5 @@ pub record Looked (least from key : ℕ) (u : View) (r : Look) : Type 0 where
 
 -- the rank of a key in a node that says u, and whether it is there
 pub record Placed (key : ℕ) (u : View) (r : Place) : Type 0 where
-  pub rank-is : r .rank ≡ below key (keys (u .records))
+  pub rank-is : r .rank ≡ rank u key
   pub there-is : r .there ≡ has key (keys (u .records))

@@ -5,13 +5,12 @@ use mathlib.Core.List.{List}
 use mathlib.Core.Bool.{false}
 use Rattle.words.specs.Written.{Wrote}
 use Rattle.node.specs.Slot.{count, names, entries}
-use Rattle.node.specs.View.{Record, View}
+use Rattle.node.specs.View.{Record, View, rank}
 use Rattle.tree.specs.Path.{way-to}
 use Rattle.tree.specs.inner.Descended.{above-of}
 use Rattle.tree.specs.declared.descend.Seat.{Seat}
 use Rattle.change.specs.declared.Outcome.{Outcome}
 use Rattle.change.specs.Gate.{Planned}
-use Rattle.change.specs.Steps.{rank}
 use Rattle.change.specs.Put.{replace-events, fill-events, put-at}
 use Rattle.pool.specs.inner.Passing.{Admitted}
 

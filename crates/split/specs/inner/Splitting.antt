@@ -12,13 +12,14 @@ use Rattle.words.specs.Blocks.{Pair, stored}
 use Rattle.words.specs.Written.{Wrote}
 use Rattle.node.specs.Lists.{insert}
 use Rattle.node.specs.Slot.{bytes, names, spot}
+use Rattle.node.specs.View as views
 use Rattle.node.specs.View.{Record, view, good, no-end, slot-at, link-at}
 use Rattle.node.specs.inner.Looked.{Inside}
 use Rattle.tree.specs.Header.{capacity-of, used-of, root-of, height-of, form-agrees, counts-agree}
 use Rattle.tree.specs.Kids.{leaf-least}
 use Rattle.tree.specs.Lists.{Each}
-use Rattle.change.specs.Steps as s
-use Rattle.change.specs.Steps.{entry-pairs, new-node, lower, staying-spot, staying-pairs}
+use Rattle.tree.specs.Halves.{eight, lower, upper-four, fifth, upper-three}
+use Rattle.change.specs.Steps.{full, entry-pairs, taken-slot, parent-spot, new-node, staying-spot, staying-pairs}
 use Rattle.change.specs.Plan.{Plan, new-nodes}
 use Rattle.change.specs.Recover.{log-pairs}
 use Rattle.change.specs.Put.{needed}
@@ -47,14 +48,14 @@ pub record Named (k w rank key value : ℕ) (f : Eight) : Type 0 where
 -- so for a full node of m, and with the record's own rank
 pub record Opened (m : List ℕ) (f : Eight) : Type 0 where
   pub met : Met m (f .node)
-  pub full-is : s.full (view m (f .node)) ≡ true
-  pub rank-is : f .rank ≡ s.rank (view m (f .node)) (f .key)
+  pub full-is : full (view m (f .node)) ≡ true
+  pub rank-is : f .rank ≡ views.rank (view m (f .node)) (f .key)
   pub spot-is : f .spot ≡ staying-spot (view m (f .node))
   pub names-are : bytes 8 (f .names) ≡ insert (f .rank) (f .spot) (view m (f .node) .named)
 
 -- "the 8 records"
 abbrev pub eight-of : List ℕ → Eight → List Record
-eight-of m f = s.eight (view m (f .node)) (new-of f)
+eight-of m f = eight (view m (f .node)) (new-of f)
 
 -- "key and value of its new record (if that stays)"
 abbrev pub if-stays : Eight → List Pair
@@ -93,21 +94,21 @@ pub record Level (node pairs : List Pair) (key new : ℕ) (u : Up) (l g : List �
 abbrev pub LeafLevel : List ℕ → ℕ → ℕ → Up → List ℕ → List ℕ → Up → List ℕ → List ℕ → Type 0
 LeafLevel m k new u =
     let v = view m k in
-    Level (new-node new (v .link) (drop lower (s.eight v (up-of u)))) (staying-pairs k v (up-of u) ((link-at k, new) ∷ []))
-    (s.fifth v (up-of u) .0) new u
+    Level (new-node new (v .link) (upper-four v (up-of u))) (staying-pairs k v (up-of u) ((link-at k, new) ∷ []))
+    (fifth v (up-of u) .0) new u
 
 -- an inner node: "the fifth's key goes up and its child becomes the new node's leftmost, the upper 3 go over"
 abbrev pub InnerLevel : List ℕ → ℕ → ℕ → Up → List ℕ → List ℕ → Up → List ℕ → List ℕ → Type 0
 InnerLevel m k new u =
     let v = view m k in
-    Level (new-node new (s.fifth v (up-of u) .1) (drop (lower + 1) (s.eight v (up-of u)))) (staying-pairs k v (up-of u) [])
-    (s.fifth v (up-of u) .0) new u
+    Level (new-node new (fifth v (up-of u) .1) (upper-three v (up-of u))) (staying-pairs k v (up-of u) [])
+    (fifth v (up-of u) .0) new u
 
 -- the pairs of the node with room: "key, child (lowest unused entry), slot word of the parent that took the last one; then used"
 abbrev pub parent-pairs : List ℕ → ℕ → ℕ → Up → List Pair
 parent-pairs m k used u =
     let v = view m k in
-    entry-pairs k (s.parent-spot v) (up-of u) ++ ((slot-at k, s.taken-slot v (u .key) (s.parent-spot v)) ∷ (p.used-at, used) ∷ [])
+    entry-pairs k (parent-spot v) (up-of u) ++ ((slot-at k, taken-slot v (u .key) (parent-spot v)) ∷ (p.used-at, used) ∷ [])
 
 -- "A full root gets a new root above it, leftmost child the old root"; the pairs "used; then, for a new root, root and height"
 abbrev pub new-root : List ℕ → ℕ → Up → Plan
@@ -148,7 +149,7 @@ pub record ToSplit (m path : List ℕ) (height w rank key size : ℕ) : Type 0 w
   pub some : 1 ≤ height
   pub nodes : Each (Met m) (take height path)
   pub slot-is : w ≡ at m (slot-at (getD path 0 0))
-  pub full-is : s.full (view m (getD path 0 0)) ≡ true
-  pub rank-is : rank ≡ s.rank (view m (getD path 0 0)) key
+  pub full-is : full (view m (getD path 0 0)) ≡ true
+  pub rank-is : rank ≡ views.rank (view m (getD path 0 0)) key
   pub need : needed m (take height path) ≤ p.height-most
   pub free : needed m (take height path) ≤ capacity-of m - used-of m

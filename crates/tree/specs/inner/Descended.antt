@@ -5,9 +5,9 @@ use mathlib.Core.List.{List, []}
 use mathlib.Core.Bool.{true}
 use lib.ListN.{length, getD, take, drop}
 use Rattle.words.specs.Event.{at}
-use Rattle.node.specs.Lists.{has, below, all-below}
+use Rattle.node.specs.Lists.{has, all-below}
 use Rattle.node.specs.Slot.{count, names, entries}
-use Rattle.node.specs.View.{view, keys, slot-at}
+use Rattle.node.specs.View.{view, keys, rank, slot-at}
 use Rattle.node.specs.inner.Looked.{Inside}
 use Rattle.tree.specs.declared.descend.Seat.{Seat}
 use Rattle.tree.specs.declared.descend.Descent.{Descent}
@@ -41,7 +41,7 @@ pub record Reaches (m : List ℕ) (key : ℕ) : Type 0 where
 pub record Seated (m : List ℕ) (key : ℕ) (s : Seat) : Type 0 where
   pub way-is : way-to m key ≡ leaf (s .leaf) (above-of (way-to m key))
   pub slot-is : s .slot ≡ at m (slot-at (s .leaf))
-  pub rank-is : s .rank ≡ below key (keys (view m (s .leaf) .records))
+  pub rank-is : s .rank ≡ rank (view m (s .leaf)) key
   pub there-is : s .there ≡ has key (keys (view m (s .leaf) .records))
 
 -- the answer to the way down to a key: the node at fault, or the leaf

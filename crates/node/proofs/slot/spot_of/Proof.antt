@@ -1,18 +1,18 @@
--- Invariant: the lowest entry that is not named is the lowest from i on.
+-- Invariant: the spot is the lowest from i on that is not named.
 use borrow.Author.Needs.{needs}
-use mathlib.Core.Path.{_≡_, _∙_, sym, refl}
+use mathlib.Core.Path.{_≡_, _∙_, sym}
 use Prim.Native.Nat.{_≤_, _-_}
 use native.Mathlib.Omega.{arith}
 use borrow.Author.Tests.{not-true, not-false}
 use Rattle.node.specs.Lists.{lowest-from}
-use Rattle.node.specs.Slot.{bytes, entries}
-use Rattle.node.proofs.Spots.{lowest-here, lowest-on, lowest-end}
+use Rattle.node.specs.Slot.{bytes, entries, spot}
+use Rattle.node.proofs.Spots.{spot-from, lowest-here, lowest-on, lowest-end}
 use Rattle.node.proofs.slot.spot_of.Statement.{statement}
 use Rattle.node.proofs.slot.spot_of.Tie as tie
 
 abbrev Inv-loop : tie.InvT-loop
 Inv-loop names n seen i₀ i =
-    (i ≤ entries) × (lowest-from 0 entries (bytes n names) ≡ lowest-from i (entries - i) (bytes n names))
+    (i ≤ entries) × (spot (bytes n names) ≡ lowest-from i (entries - i) (bytes n names))
 
 abbrev μ-loop : tie.MeasureT-loop
 μ-loop names n seen i₀ i = entries - i
@@ -21,7 +21,7 @@ marks-of-requires : tie.Need-marks-of-requires Inv-loop μ-loop
 marks-of-requires c κs = search needs
 
 loop-holds : tie.Need-loop-holds Inv-loop μ-loop
-loop-holds c = (search needs, refl)
+loop-holds c = (search needs, spot-from _)
 
 marked-requires : tie.Need-marked-requires Inv-loop μ-loop
 marked-requires c κs = search needs

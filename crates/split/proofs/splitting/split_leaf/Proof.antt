@@ -1,7 +1,7 @@
 -- `pool::split_leaf` meets its contract: the level by the law `leaf-level`.
 use native.Mathlib.Omega.{arith}
 use borrow.Author.Needs.{needs}
-use Rattle.change.specs.Steps.{lower}
+use Rattle.tree.specs.Halves.{lower}
 use Rattle.split.specs.inner.Splitting.{Opened, eight-of}
 use Rattle.split.proofs.Eights.{opened-in, opened-eight, rank-le, spot-low}
 use Rattle.split.proofs.Builds.{node-length}
