@@ -22,7 +22,6 @@ pub mod Split
 pub mod Cases
 pub mod Told
 pub mod Served
-pub mod Bounds
 pub mod Recover
 pub mod Unread
 pub mod Survives

@@ -1,7 +1,7 @@
 -- Words that reading a well-formed pool does not look at: the pairs of the log, entries that no slot word names, and nodes above used.
 use Prim.Native.Nat.{ℕ, suc, _≤_, _<_}
 use mathlib.Core.Path.{_≡_, sym, _∙_}
-use mathlib.Core.Logic.{_⊎_, inl, inr}
+use mathlib.Core.Logic.{_⊎_, inl, inr, ⊎-elim}
 use mathlib.Core.List.{List}
 use mathlib.Core.Bool.{true, false}
 use native.Mathlib.Omega.{arith}
@@ -30,18 +30,10 @@ module _ {m : List ℕ} (w : WellFormed m) where
   read-place (inr (k, p, q, inr (inr (i, n, inr e)))) = let s = named-small k i p q n in inr (omega arith, omega arith)
 
   pub log-unread : {x : ℕ} → commit-at < x → x < nodes-at → ¬ Reads m x
-  log-unread {x} low high r = go (read-place r)
-    where
-      go : (x ≤ commit-at) ⊎ ((nodes-at ≤ x) × (x < node-at (suc (used-of m)))) → ⊥
-      go (inl h) = omega arith
-      go (inr h) = omega arith
+  log-unread low high r = ⊎-elim (λ h. omega arith) (λ h. omega arith) (read-place r)
 
   pub high-unread : {x : ℕ} → node-at (suc (used-of m)) ≤ x → ¬ Reads m x
-  high-unread {x} high r = go (read-place r)
-    where
-      go : (x ≤ commit-at) ⊎ ((nodes-at ≤ x) × (x < node-at (suc (used-of m)))) → ⊥
-      go (inl h) = omega arith
-      go (inr h) = omega arith
+  high-unread high r = ⊎-elim (λ h. omega arith) (λ h. omega arith) (read-place r)
 
   pub entry-unread : (k i : ℕ) → 1 ≤ k → i < entries → has i (view m k .named) ≡ false
       → {x : ℕ} → (x ≡ key-at k i) ⊎ (x ≡ value-at k i) → ¬ Reads m x

@@ -37,12 +37,16 @@ use Rattle.change.proofs.Cases.{list-passes}
 abbrev level : ℕ → ℕ → List Pair
 level n k = new-node k (k - 1) (map (λ (i : ℕ). (10 * i, k - 1)) (count-from (7 * k - 6) n))
 
--- l full nodes one above the other, under a root of one entry where the root is to be kept, and as many nodes left as a split needs
-unfoldable memory : ℕ → ℕ → List ℕ
-memory r l =
+-- a pool of l full nodes one above the other, under a root of one entry where r is 0
+unfoldable pub tower : ℕ → ℕ → ℕ → List ℕ
+tower capacity r l =
     let top = l + 1 - r in
     let header : List Pair = (used-at, top) ∷ (root-at, top) ∷ (height-at, top) ∷ [] in
-    run (fresh (2 * l + 1)) (stores (header ++ (gather (level 7) (count-from 1 l) ++ gather (level 1) (count-from (l + 1) (1 - r)))))
+    run (fresh capacity) (stores (header ++ (gather (level 7) (count-from 1 l) ++ gather (level 1) (count-from (l + 1) (1 - r)))))
+
+-- with as many nodes left as a split needs
+abbrev memory : ℕ → ℕ → List ℕ
+memory r l = tower (2 * l + 1) r l
 
 -- the put of 5, which is below all keys
 abbrev plan : ℕ → ℕ → Planned Outcome
@@ -66,7 +70,7 @@ test r l = meets r l (way-to (memory r l) 5)
 
 -- all fourteen
 cells : T (every (λ r. every (test r) (count-from 1 7)) (count-from 0 2))
-unfolding opened every tests split-levels memory meets test
+unfolding opened every tests split-levels tower meets test
 cells = tt
 
 -- a test that passes at the n numbers from i on passes at each of them

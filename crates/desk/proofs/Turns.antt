@@ -16,15 +16,18 @@ use Rattle.desk.proofs.Bounds.{may-turn-true, submit-may}
 use Rattle.desk.proofs.Choose.{Choice, nobody, nearest, chosen as chosen-is}
 use Rattle.desk.proofs.Served.{member-is}
 
--- nobody's desk is none, and any other member's is there
-empties : (ds : List Desk) (j : ℕ) → (j ≡ 0) ⊎ (may-submit (length ds) j ≡ true) → emptied ds j ≡ with-desk ds j fresh
-unfolding emptied
-empties ds j (inl e) = rw e (go (may-submit (length ds) 0))
+-- nobody, or a member that has a desk
+abbrev pub Seat : ℕ → ℕ → Type 0
+Seat n j = (j ≡ 0) ⊎ (may-submit n j ≡ true)
+
+-- of these, what is left for nobody need not be tested for
+pub untested : {A : Type 0} (n : ℕ) (left : ℕ → A) (j : ℕ) → Seat n j → (if may-submit n j then left j else left 0) ≡ left j
+untested n left j (inl e) = rw e (go (may-submit n 0))
   where
-    go : (b : Bool) → (if b then ds else ds) ≡ ds
+    go : (b : Bool) → (if b then left 0 else left 0) ≡ left 0
     go true = refl
     go false = refl
-empties ds j (inr t) = rw t
+untested n left j (inr t) = rw t
 
 module _ (m l : List ℕ) (ds : List Desk) (last : ℕ) where
   abbrev serve-of : Chosen → Left
@@ -43,23 +46,27 @@ module _ (m l : List ℕ) (ds : List Desk) (last : ℕ) where
   unfolding serve-turn
   refused-member t = rw t
 
-  one-of : (may-turn (length ds) last ≡ true) → (k : ℕ) → Choice ds last k → (k ≡ 0) ⊎ (may-submit (length ds) k ≡ true)
+  one-of : (may-turn (length ds) last ≡ true) → (k : ℕ) → Choice ds last k → Seat (length ds) k
   one-of t k (nobody f) = inl refl
   one-of t k (nearest a b f n) = inr (submit-may (length ds) k (may-turn-true (length ds) last t .1) a b)
 
-  empties-served : emptied ds (turn m l ds last .answer .member) ≡ turn-desks m l ds last
-  empties-served = empties ds (turn m l ds last .answer .member) (go (may-turn (length ds) last) refl)
+  -- whom a turn answers
+  pub seat : Seat (length ds) (turn m l ds last .answer .member)
+  seat = go (may-turn (length ds) last) refl
     where
       by-member : may-turn (length ds) last ≡ true
           → (turn m l ds last .answer .member ≡ 0) ⊎ (turn m l ds last .answer .member ≡ choose ds last)
-          → (turn m l ds last .answer .member ≡ 0) ⊎ (may-submit (length ds) (turn m l ds last .answer .member) ≡ true)
+          → Seat (length ds) (turn m l ds last .answer .member)
       by-member t (inl e) = inl e
       by-member t (inr e) = rw e (one-of t (choose ds last) (chosen-is ds last (may-turn-true (length ds) last t .2)))
 
-      go : (b : Bool) → may-turn (length ds) last ≡ b
-          → (turn m l ds last .answer .member ≡ 0) ⊎ (may-submit (length ds) (turn m l ds last .answer .member) ≡ true)
+      go : (b : Bool) → may-turn (length ds) last ≡ b → Seat (length ds) (turn m l ds last .answer .member)
       go true t = by-member t (member-is m l (length ds) last (choose ds last) (held ds (choose ds last)))
       go false t = inl (refused-member t)
+
+  empties-served : emptied ds (turn m l ds last .answer .member) ≡ turn-desks m l ds last
+  unfolding emptied
+  empties-served = untested (length ds) (λ j. with-desk ds j fresh) (turn m l ds last .answer .member) seat
 
   pub leaves : (c : Chosen) {r : Turn} {m′ l′ : List ℕ} {ds′ : List Desk} → c ≡ chosen ds last
       → let t = serve-turn m l (length ds) last (c .member) (c .desk) in (r ≡ t .answer) × (m′ ≡ t .pool) × (l′ ≡ t .list)

@@ -5,8 +5,8 @@ use mathlib.Core.Bool.{true}
 use Prim.Native.Nat.{ℕ, zero, suc, _+_, _*_, _/_, _%_, _^_, _≤_, _<_}
 use native.Mathlib.Nat.{div-one, mod-one, mod-lt, mul-assoc, add-zero, mul-one, pow-suc}
 use native.Mathlib.Omega.{arith}
-use borrow.Author.Tests.{lt-ltb, ltb-true}
-use lib.Arith.{digits-div, digits-mod, digits-lt}
+use borrow.Author.Tests.{ltb-true}
+use lib.Arith.{digits-div, digits-mod}
 use lib.Dec.{lit<}
 use lib.ListN.{length, getD, take}
 use lib.Pow.{shr-shr, pow-add, mod-pow-add}
@@ -18,11 +18,6 @@ pub length-bytes : (n w : ℕ) → length (bytes n w) ≡ n
 unfolding bytes
 length-bytes zero w = refl
 length-bytes (suc n) w = ap suc (length-bytes n (w / byte))
-
-pub bytes-small : (n w : ℕ) → all-below byte (bytes n w) ≡ true
-unfolding bytes all-below
-bytes-small zero w = refl
-bytes-small (suc n) w = rw (lt-ltb (w % byte) byte (mod-lt w (lit< tt)), bytes-small n (w / byte))
 
 -- the first i of n bytes
 pub bytes-take : (i n w : ℕ) → i ≤ n → bytes i w ≡ take i (bytes n w)
@@ -58,9 +53,6 @@ unfolding bytes word-of
 low-word zero w = sym (mod-one w)
 low-word (suc n) w = rw (low-word n (w / byte)) (sym (low-next w n))
 
-pub word-of-bytes : (n w : ℕ) → word-of (bytes n w) ≡ w % byte ^ n
-word-of-bytes n w = low-word n w ∙ ap (λ (x : ℕ). w % x) (byte-pow n)
-
 -- the bytes of a word of bytes
 pub bytes-word-of : (bs : List ℕ) → all-below byte bs ≡ true → bytes (length bs) (word-of bs) ≡ bs
 unfolding bytes word-of all-below
@@ -69,13 +61,6 @@ bytes-word-of (b ∷ bs) s =
     let t = both s in
     let h : b < byte = ltb-true b byte (t .0) in
     rw (digits-mod (word-of bs) h, digits-div (word-of bs) h, bytes-word-of bs (t .1))
-
-pub word-fits : (bs : List ℕ) → all-below byte bs ≡ true → word-of bs < 2 ^ (8 * length bs)
-unfolding word-of all-below
-word-fits [] s = lit< tt
-word-fits (b ∷ bs) s =
-    let t = both s in
-    rw (pow-next (length bs)) (digits-lt (word-fits bs (t .1)) (ltb-true b byte (t .0)))
 
 -- w with b put in at byte i, and with byte i taken out, as sums
 abbrev pub put-in : ℕ → ℕ → ℕ → ℕ

@@ -7,7 +7,7 @@ use native.Mathlib.Nat.{le-trans, lt-of-lt-of-le}
 use native.Mathlib.Omega.{arith}
 use borrow.Author.Tests.{eqb-true, ltb-true, leb-true, lt-ltb, le-leb}
 use lib.Dec.{ltb, leb, eqb}
-use lib.ListN.{length, getD, take, drop}
+use lib.ListN.{length, getD, take}
 use Rattle.node.specs.Lists.{insert, remove, has, all-below, covered}
 use Rattle.words.proofs.Tests.{both}
 
@@ -63,12 +63,6 @@ module _ (p : ℕ → Bool) where
   every-take (suc i) [] t = refl
   every-take (suc i) (y ∷ ys) t = rw (every-cons y ys t .0, every-take i ys (every-cons y ys t .1))
 
-  pub every-drop : (i : ℕ) (xs : List ℕ) → every p xs ≡ true → every p (drop i xs) ≡ true
-  unfolding every
-  every-drop zero xs t = t
-  every-drop (suc i) [] t = refl
-  every-drop (suc i) (y ∷ ys) t = every-drop i ys (every-cons y ys t .1)
-
   pub every-at : (i : ℕ) (xs : List ℕ) → every p xs ≡ true → i < length xs → p (getD xs i 0) ≡ true
   unfolding every
   every-at i [] t h = absurd (omega arith)
@@ -118,26 +112,5 @@ module _ (b : ℕ) (i : ℕ) where
   pub below-take : (xs : List ℕ) → all-below b xs ≡ true → all-below b (take i xs) ≡ true
   below-take xs t = rw (below-every b (take i xs)) (every-take (λ x. ltb x b) i xs (rw (below-every b xs) at t))
 
-  pub below-drop : (xs : List ℕ) → all-below b xs ≡ true → all-below b (drop i xs) ≡ true
-  below-drop xs t = rw (below-every b (drop i xs)) (every-drop (λ x. ltb x b) i xs (rw (below-every b xs) at t))
-
   pub below-at : (xs : List ℕ) → all-below b xs ≡ true → i < length xs → getD xs i 0 < b
   below-at xs t h = ltb-true (getD xs i 0) b (every-at (λ x. ltb x b) i xs (rw (below-every b xs) at t) h)
-
-module _ (lo hi : ℕ) (i : ℕ) where
-  pub covered-insert : (x : ℕ) (xs : List ℕ) → covered lo hi (insert i x xs) ≡ (leb lo x && ltb x hi && covered lo hi xs)
-  covered-insert x xs =
-      rw (covered-every lo hi (insert i x xs), covered-every lo hi xs) (every-insert (λ x. leb lo x && ltb x hi) i x xs)
-
-  pub covered-remove : (xs : List ℕ) → covered lo hi xs ≡ true → covered lo hi (remove i xs) ≡ true
-  covered-remove xs t =
-      rw (covered-every lo hi (remove i xs)) (every-remove (λ x. leb lo x && ltb x hi) i xs (rw (covered-every lo hi xs) at t))
-
-  pub covered-take : (xs : List ℕ) → covered lo hi xs ≡ true → covered lo hi (take i xs) ≡ true
-  covered-take xs t =
-      rw (covered-every lo hi (take i xs)) (every-take (λ x. leb lo x && ltb x hi) i xs (rw (covered-every lo hi xs) at t))
-
-  pub covered-at : (xs : List ℕ) → covered lo hi xs ≡ true → i < length xs → (lo ≤ getD xs i 0) × (getD xs i 0 < hi)
-  covered-at xs t h =
-      let p = both (every-at (λ x. leb lo x && ltb x hi) i xs (rw (covered-every lo hi xs) at t) h) in
-      (leb-true lo (getD xs i 0) (p .0), ltb-true (getD xs i 0) hi (p .1))

@@ -1,11 +1,11 @@
 -- Words put together by shifts and masks, as sums, each law over the number of bits.
 use mathlib.Core.Path.{_≡_, _∙_}
 use Prim.Native.Nat.{ℕ, _+_, _*_, _/_, _%_, _-_, _^_, _≤_, _<_}
-use native.Mathlib.Nat.{lt-of-le-of-lt, one-mul}
+use native.Mathlib.Nat.{lt-of-le-of-lt, mod-lt, one-mul}
 use native.Mathlib.Omega.{arith}
 use lib.Arith.{digits-lt}
 use lib.Bits.{bitAnd, bitOr, and-mask}
-use lib.Pow.{pow-add, shl-exact, shr-lt, shr-le}
+use lib.Pow.{pow-pos, pow-add, shl-exact, shr-lt, shr-le}
 use Rattle.words.proofs.Joined.{joined}
 
 -- hi of j bits above lo of k bits: below 2 ^ (j + k)
@@ -21,23 +21,23 @@ pub low-mask : (w k : ℕ) → k < 64 → bitAnd w ((1 * 2 ^ k) % 2 ^ 64 - 1) �
 low-mask w k h = rw (one-shifted k h) (and-mask w k)
 
 -- b put in at bit k of w, of the lowest 56
-pub inserted : (k : ℕ) {w b lo : ℕ} → k ≤ 56 → w < 2 ^ 56 → b < 256 → lo < 2 ^ k
-    → bitOr ((bitOr ((w / 2 ^ k * 2 ^ 8) % 2 ^ 64) b * 2 ^ k) % 2 ^ 64) lo ≡ (w / 2 ^ k * 256 + b) * 2 ^ k + lo
-inserted k {w} {b} {lo} hk hw hb hlo =
+pub inserted : (k : ℕ) {w b : ℕ} → k ≤ 56 → w < 2 ^ 56 → b < 256
+    → bitOr ((bitOr ((w / 2 ^ k * 2 ^ 8) % 2 ^ 64) b * 2 ^ k) % 2 ^ 64) (w % 2 ^ k) ≡ (w / 2 ^ k * 256 + b) * 2 ^ k + w % 2 ^ k
+inserted k {w} {b} hk hw hb =
     let high : w / 2 ^ k < 2 ^ (56 - k) = shr-lt (56 - k) k (rw (rejoin) hw) in
     rw (joined 56 8 (lt-of-le-of-lt (shr-le w k) hw) hb (omega arith))
-    (joined (56 - k + 8) k (cat-lt (56 - k) 8 high hb) hlo (omega arith))
+    (joined (56 - k + 8) k (cat-lt (56 - k) 8 high hb) (mod-lt w (pow-pos k)) (omega arith))
   where
     rejoin : 56 - k + k ≡ 56
     rejoin = omega arith
 
--- w shifted down by k and 8 bits, and up by k again
-pub lifted : (k : ℕ) {w lo : ℕ} → k ≤ 56 → w < 2 ^ 64 → lo < 2 ^ k
-    → bitOr ((w / 2 ^ k / 2 ^ 8 * 2 ^ k) % 2 ^ 64) lo ≡ w / 2 ^ k / 2 ^ 8 * 2 ^ k + lo
-lifted k {w} {lo} hk hw hlo =
+-- the 8 bits of w from bit k on taken out
+pub lifted : (k : ℕ) {w : ℕ} → k ≤ 56 → w < 2 ^ 64
+    → bitOr ((w / 2 ^ k / 2 ^ 8 * 2 ^ k) % 2 ^ 64) (w % 2 ^ k) ≡ w / 2 ^ k / 2 ^ 8 * 2 ^ k + w % 2 ^ k
+lifted k {w} hk hw =
     let low : w / 2 ^ k < 2 ^ (64 - k) = shr-lt (64 - k) k (rw (rejoin) hw) in
     let less : w / 2 ^ k / 2 ^ 8 < 2 ^ (56 - k) = shr-lt (56 - k) 8 (rw (again) low) in
-    joined (56 - k) k less hlo (omega arith)
+    joined (56 - k) k less (mod-lt w (pow-pos k)) (omega arith)
   where
     rejoin : 64 - k + k ≡ 64
     rejoin = omega arith

@@ -17,11 +17,6 @@ module _ {A : Type 0} where
   length-remove zero (y ∷ ys) h = refl
   length-remove (suc i) (y ∷ ys) h = ap suc (length-remove i ys (omega arith))
 
-  pub remove-insert : (i : ℕ) (x : A) (xs : List A) → i ≤ length xs → remove i (insert i x xs) ≡ xs
-  remove-insert zero x xs h = refl
-  remove-insert (suc i) x [] h = absurd (omega arith)
-  remove-insert (suc i) x (y ∷ ys) h = ap (λ (l : List A). y ∷ l) (remove-insert i x ys (omega arith))
-
   pub insert-remove : (i : ℕ) (xs : List A) (d : A) → i < length xs → insert i (getD xs i d) (remove i xs) ≡ xs
   insert-remove i [] d h = absurd (omega arith)
   insert-remove zero (y ∷ ys) d h = refl

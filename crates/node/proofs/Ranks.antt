@@ -2,18 +2,17 @@
 use mathlib.Core.Path.{_≡_, _∙_, ap, sym, refl}
 use mathlib.Core.List.{List, [], _∷_, map}
 use mathlib.Core.Bool.{Bool, true, false, not, _&&_, _||_, and-false, false≢true}
-use mathlib.Core.Logic.{⊎-elim}
 use Prim.Native.Nat.{ℕ, zero, suc, _+_, _≤_, _<_}
-use native.Mathlib.Nat.{lt-trans, eq-or-lt-of-le}
+use native.Mathlib.Nat.{lt-trans}
 use native.Mathlib.Omega.{arith}
 use borrow.Author.Tests.{ltb-true, ltb-false, lt-ltb, le-ltb, eq-eqb, ne-eqb, eqb-true, eqb-false}
 use lib.Dec.{ltb, eqb}
-use lib.ListN.{length, getD, take, drop}
+use lib.ListN.{length, getD}
 use mir.Val.{boolByte}
 use Rattle.words.specs.Tests.{if_then_else_}
-use Rattle.node.specs.Lists.{insert, remove, has, different, rising, below, upto}
+use Rattle.node.specs.Lists.{has, different, rising, below, upto}
 use Rattle.words.proofs.Tests.{both}
-use Rattle.node.proofs.Every.{every, every-cons, every-weaker, every-insert, every-remove, every-take, every-at, every-has}
+use Rattle.node.proofs.Every.{every, every-weaker, every-has}
 use Rattle.node.proofs.Sets.{has-at, has-map}
 
 -- the first of a rising list is less than each of the others
@@ -27,53 +26,6 @@ rising-cons x [] t = (refl, refl)
 rising-cons x (y ∷ ys) t =
     let p = both {a = ltb x y} {b = rising (y ∷ ys)} t in
     (rw (p .0) (every-more x y ys (ltb-true x y (p .0)) (rising-cons y ys (p .1) .0)), p .1)
-
-pub cons-rising : (x : ℕ) (xs : List ℕ) → every (λ y. ltb x y) xs ≡ true → rising xs ≡ true → rising (x ∷ xs) ≡ true
-unfolding rising every
-cons-rising x [] e t = refl
-cons-rising x (y ∷ ys) e t = rw (every-cons (λ z. ltb x z) y ys e .0) t
-
-pub rising-remove : (i : ℕ) (xs : List ℕ) → rising xs ≡ true → rising (remove i xs) ≡ true
-unfolding rising
-rising-remove zero [] t = refl
-rising-remove (suc i) [] t = refl
-rising-remove zero (y ∷ ys) t = rising-cons y ys t .1
-rising-remove (suc i) (y ∷ ys) t =
-    let p = rising-cons y ys t in
-    cons-rising y (remove i ys) (every-remove (λ z. ltb y z) i ys (p .0)) (rising-remove i ys (p .1))
-
-pub rising-take : (i : ℕ) (xs : List ℕ) → rising xs ≡ true → rising (take i xs) ≡ true
-unfolding rising
-rising-take zero xs t = refl
-rising-take (suc i) [] t = refl
-rising-take (suc i) (y ∷ ys) t =
-    let p = rising-cons y ys t in
-    cons-rising y (take i ys) (every-take (λ z. ltb y z) i ys (p .0)) (rising-take i ys (p .1))
-
-pub rising-drop : (i : ℕ) (xs : List ℕ) → rising xs ≡ true → rising (drop i xs) ≡ true
-unfolding rising
-rising-drop zero xs t = t
-rising-drop (suc i) [] t = refl
-rising-drop (suc i) (y ∷ ys) t = rising-drop i ys (rising-cons y ys t .1)
-
--- a number that the list has not, put in at its rank
-pub rising-insert : (x : ℕ) (xs : List ℕ) → rising xs ≡ true → has x xs ≡ false → rising (insert (below x xs) x xs) ≡ true
-unfolding rising below has
-rising-insert x [] t n = refl
-rising-insert x (y ∷ ys) t n =
-    go (eqb x y) refl n (ltb y x) refl (λ n. rising-insert x ys (rising-cons y ys t .1) n)
-  where
-    go : (a : Bool) → eqb x y ≡ a → (a || has x ys) ≡ false → (b : Bool) → ltb y x ≡ b
-        → (has x ys ≡ false → rising (insert (below x ys) x ys) ≡ true)
-        → rising (insert (if b then suc (below x ys) else 0) x (y ∷ ys)) ≡ true
-    go true e n b u f = absurd (false≢true (sym n))
-    go false e n true u f =
-        cons-rising y (insert (below x ys) x ys)
-        (every-insert (λ z. ltb y z) (below x ys) x ys ∙ rw (u) (rising-cons y ys t .0)) (f n)
-    go false e n false u f = rw (lt-ltb x y (apart (ltb-false y x u))) t
-      where
-        apart : x ≤ y → x < y
-        apart h = ⊎-elim (λ q. absurd (eqb-false x y e q)) (λ l. l) (eq-or-lt-of-le h)
 
 pub below-length : (x : ℕ) (xs : List ℕ) → below x xs ≤ length xs
 unfolding below
@@ -99,25 +51,6 @@ before-rank x (suc i) (y ∷ ys) h = go (ltb y x) (before-rank x i ys) h
     go true f h = f (omega arith)
     go false f h = absurd (omega arith)
 
--- and those from it on are not
-pub from-rank : (x i : ℕ) (xs : List ℕ) → rising xs ≡ true → below x xs ≤ i → i < length xs → x ≤ getD xs i 0
-unfolding below
-from-rank x i [] t h l = absurd (omega arith)
-from-rank x zero (y ∷ ys) t h l = go (ltb y x) refl h
-  where
-    go : (b : Bool) → ltb y x ≡ b → (if b then suc (below x ys) else 0) ≤ 0 → x ≤ y
-    go true u h = absurd (omega arith)
-    go false u h = ltb-false y x u
-from-rank x (suc i) (y ∷ ys) t h l = go (ltb y x) refl (λ h. from-rank x i ys (rising-cons y ys t .1) h (omega arith)) h
-  where
-    go : (b : Bool) → ltb y x ≡ b → (below x ys ≤ i → x ≤ getD ys i 0) → (if b then suc (below x ys) else 0) ≤ suc i
-        → x ≤ getD ys i 0
-    go true u f h = f (omega arith)
-    go false u f h =
-        let p : x ≤ y = ltb-false y x u in
-        let q : y < getD ys i 0 = ltb-true y (getD ys i 0) (every-at (λ z. ltb y z) i ys (rising-cons y ys t .0) (omega arith)) in
-        omega arith
-
 -- a number that a rising list has stands at its rank
 pub found-at : (x : ℕ) (xs : List ℕ) → rising xs ≡ true → has x xs ≡ true → (below x xs < length xs) × (getD xs (below x xs) 0 ≡ x)
 unfolding below has
@@ -137,15 +70,6 @@ found-at x (y ∷ ys) t h = go (eqb x y) refl h (ltb y x) refl (λ h. found-at x
         let p : x ≤ y = ltb-false y x u in
         let q : y < x = ltb-true y x (every-has (λ z. ltb y z) x ys (rising-cons y ys t .0) h) in
         absurd (omega arith)
-
--- the rank of the number at a place of a rising list is that place
-pub rank-at : (i : ℕ) (xs : List ℕ) → rising xs ≡ true → i < length xs → below (getD xs i 0) xs ≡ i
-unfolding below
-rank-at i [] t h = absurd (omega arith)
-rank-at zero (y ∷ ys) t h = rw (le-ltb y y (omega arith))
-rank-at (suc i) (y ∷ ys) t h =
-    let p = rising-cons y ys t in
-    rw (every-at (λ z. ltb y z) i ys (p .0) (omega arith), rank-at i ys (p .1) (omega arith))
 
 -- a rising list has x where x stands at its rank, and nowhere else
 pub has-at-rank : (x : ℕ) (xs : List ℕ) → rising xs ≡ true

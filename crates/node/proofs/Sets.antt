@@ -6,11 +6,11 @@ use Prim.Native.Nat.{ℕ, zero, suc, _<_}
 use native.Mathlib.Omega.{arith}
 use borrow.Author.Tests.{eqb-true, eq-eqb, not-true, not-false}
 use lib.Dec.{eqb}
-use lib.ListN.{length, getD, take, drop}
+use lib.ListN.{length, getD, take}
 use Rattle.node.specs.Lists.{insert, remove, has, different}
 use Rattle.words.proofs.Tests.{both, eqb-sym}
 use Rattle.node.proofs.Tests.{neither}
-use Rattle.node.proofs.Every.{every, has-every, every-remove, every-take, every-drop}
+use Rattle.node.proofs.Every.{every, has-every, every-remove, every-take}
 
 pub has-at : (i : ℕ) (xs : List ℕ) → i < length xs → has (getD xs i 0) xs ≡ true
 unfolding has
@@ -53,9 +53,6 @@ module _ (x : ℕ) where
   pub has-not-take : (i : ℕ) (xs : List ℕ) → has x xs ≡ false → has x (take i xs) ≡ false
   has-not-take i xs t = absent-from (take i xs) (every-take (λ y. not (eqb x y)) i xs (absent xs t))
 
-  pub has-not-drop : (i : ℕ) (xs : List ℕ) → has x xs ≡ false → has x (drop i xs) ≡ false
-  has-not-drop i xs t = absent-from (drop i xs) (every-drop (λ y. not (eqb x y)) i xs (absent xs t))
-
 pub different-cons : (x : ℕ) (xs : List ℕ) → different (x ∷ xs) ≡ true → (has x xs ≡ false) × (different xs ≡ true)
 unfolding different
 different-cons x xs t =
@@ -85,12 +82,6 @@ different-take (suc i) [] t = refl
 different-take (suc i) (y ∷ ys) t =
     let p = different-cons y ys t in
     rw (has-not-take y i ys (p .0), different-take i ys (p .1))
-
-pub different-drop : (i : ℕ) (xs : List ℕ) → different xs ≡ true → different (drop i xs) ≡ true
-unfolding different
-different-drop zero xs t = t
-different-drop (suc i) [] t = refl
-different-drop (suc i) (y ∷ ys) t = different-drop i ys (different-cons y ys t .1)
 
 pub has-remove : (x i : ℕ) (xs : List ℕ) → different xs ≡ true → i < length xs
     → has x (remove i xs) ≡ (has x xs && not (eqb x (getD xs i 0)))

@@ -6,45 +6,24 @@ use Prim.Native.Nat.{ℕ, zero, suc, _+_, _-_, _*_, _/_, _%_, _^_, _≤_, _<_}
 use native.Mathlib.Nat.{mod-lt, lt-of-lt-of-le}
 use native.Mathlib.Numerals.{add-one}
 use native.Mathlib.Omega.{arith}
-use borrow.Author.Tests.{lt-ltb}
 use lib.Arith.{digits-div, digits-mod}
 use lib.Bits.{bitOr}
 use lib.Dec.{lit≤}
 use lib.ListN.{length, getD, take}
 use lib.Pow.{pow-pos, pow-mono}
-use lib.Seq.{length-take-le}
 use Rattle.words.specs.Lists.{count-from}
 use Rattle.node.specs.Lists.{insert, remove, all-below}
 use Rattle.node.specs.Slot.{byte, bytes, word-of, count, names, slot, entries}
 use Rattle.words.proofs.Joined.{joined}
-use Rattle.node.proofs.Digits.{length-bytes, bytes-small, bytes-take, bytes-at, low-word, bytes-word-of, word-fits}
-use Rattle.node.proofs.Places.{length-insert, length-remove}
-use Rattle.node.proofs.Every.{below-insert, below-remove, below-take}
+use Rattle.node.proofs.Digits.{length-bytes, bytes-take, bytes-at, low-word, bytes-word-of}
 
 pub length-names : (w : ℕ) → length (names w) ≡ count w
 unfolding names
 length-names w = length-bytes (count w) (w / byte)
 
-pub names-small : (w : ℕ) → all-below byte (names w) ≡ true
-unfolding names
-names-small w = bytes-small (count w) (w / byte)
-
-module _ (ns : List ℕ) (few : length ns < byte) where
-  pub count-slot : count (slot ns) ≡ length ns
-  unfolding slot word-of
-  count-slot = digits-mod (word-of ns) few
-
-  pub names-slot : all-below byte ns ≡ true → names (slot ns) ≡ ns
-  unfolding names slot word-of
-  names-slot small =
-      rw (digits-mod (word-of ns) few, digits-div (word-of ns) few) (bytes-word-of ns small)
-
-pub slot-fits : (ns : List ℕ) → all-below byte ns ≡ true → length ns ≤ entries → slot ns < 2 ^ 64
-unfolding slot all-below
-slot-fits ns small few =
-    let all : all-below byte (length ns ∷ ns) ≡ true = rw (lt-ltb (length ns) byte (omega arith)) small in
-    let p : 2 ^ (8 * suc (length ns)) ≤ 2 ^ 64 = pow-mono {i = 8 * suc (length ns)} {j = 64} (omega arith) in
-    lt-of-lt-of-le (word-fits (length ns ∷ ns) all) p
+pub names-slot : (ns : List ℕ) → length ns < byte → all-below byte ns ≡ true → names (slot ns) ≡ ns
+unfolding names slot word-of
+names-slot ns few small = rw (digits-mod (word-of ns) few, digits-div (word-of ns) few) (bytes-word-of ns small)
 
 -- the lowest n bytes of a word of names, shifted up by one byte over their number
 pub slot-joined : (v n : ℕ) → n ≤ entries → bitOr ((v % 2 ^ (8 * n) * 2 ^ 8) % 2 ^ 64) n ≡ slot (bytes n v)
@@ -96,20 +75,3 @@ seven-bytes = refl
 -- the word whose seven bytes are 0 to 6
 pub rising-bytes : (n : ℕ) → n ≤ entries → bytes n 0x0006_0504_0302_0100 ≡ count-from 0 n
 rising-bytes n h = bytes-take n entries 0x0006_0504_0302_0100 h ∙ ap (take n) seven-bytes ∙ take-count n entries 0 h
-
--- a slot word written anew says back what was written
-pub names-insert : (i e : ℕ) (ns : List ℕ) → e < byte → all-below byte ns ≡ true → suc (length ns) < byte
-    → names (slot (insert i e ns)) ≡ insert i e ns
-names-insert i e ns he small few =
-    names-slot (insert i e ns) (rw (length-insert i e ns) few) (rw (below-insert byte i e ns, lt-ltb e byte he) small)
-
-pub names-remove : (i : ℕ) (ns : List ℕ) → i < length ns → all-below byte ns ≡ true → length ns < byte
-    → names (slot (remove i ns)) ≡ remove i ns
-names-remove i ns h small few =
-    let l = length-remove i ns h in
-    names-slot (remove i ns) (omega arith) (below-remove byte i ns small)
-
-pub names-first : (n : ℕ) (ns : List ℕ) → n ≤ length ns → all-below byte ns ≡ true → length ns < byte
-    → names (slot (take n ns)) ≡ take n ns
-names-first n ns h small few =
-    names-slot (take n ns) (rw (length-take-le n ns h) (omega arith)) (below-take byte n ns small)

@@ -8,7 +8,7 @@ use crate::marks::marked;
 use crate::marks::marks_of;
 ghost use mathlib.Core.Path.{_≡_};
 ghost use Prim.Native.Nat.{_≤_, _<_};
-ghost use lib.ListN.{getD, take};
+ghost use lib.ListN.{getD};
 ghost use Rattle.words.specs.Lists.{count-from};
 ghost use Rattle.node.specs.Lists.{insert, remove};
 ghost use Rattle.node.specs.Slot as s;
@@ -51,14 +51,6 @@ pub fn without_name(w: u64, rank: u64) -> u64
 {
     let names = remove_byte(w >> 8, rank);
     slot_of(names, count(w) - 1)
-}
-
-// w cut to its first n names.
-pub fn first_names(w: u64, n: u64) -> u64
-    requires { ⌜ (n ≤ s.count w) × (s.count w ≤ s.entries) ⌝ }
-    ensures { λ r. ⌜ r ≡ s.slot (take n (s.names w)) ⌝ }
-{
-    slot_of(w >> 8, n)
 }
 
 // The slot word that names the entries 0 to n - 1.

@@ -1,7 +1,6 @@
 -- Records read as desks: what the parts of a submit and of a turn make of the records is what these leave.
 use Prim.Native.Nat.{ℕ, zero, suc, _+_, _-_, _≤_, _<_}
-use mathlib.Core.Path.{_≡_, refl, sym, _∙_, ap}
-use mathlib.Core.Logic.{_⊎_, inl, inr}
+use mathlib.Core.Path.{_≡_, refl, sym, subst, _∙_, ap}
 use mathlib.Core.List.{List, [], _∷_}
 use mathlib.Core.Bool.{Bool, true, false}
 use native.Mathlib.Omega.{arith}
@@ -20,14 +19,11 @@ use Rattle.desk.specs.declared.answer.Submitted.{Submitted}
 use Rattle.desk.specs.declared.answer.Submitted.the-variants.{Accepted, Refused}
 use Rattle.desk.specs.declared.answer.Turn.{Turn}
 use Rattle.desk.specs.Desk as d
-use Rattle.desk.specs.Desk.{desks-most, held, with-desk, may-submit, may-turn, round, choose, accepts}
+use Rattle.desk.specs.Desk.{desks-most, held, with-desk, may-submit, may-turn, round, accepts}
 use Rattle.desk.specs.Turn.{submit-answer, submit-desks, serve-turn, turn, turn-desks}
 use Rattle.desk.specs.inner.Parts.{noted, chosen}
-use Rattle.desk.proofs.Bounds.{may-turn-true, submit-may, looked-bounds}
+use Rattle.desk.proofs.Bounds.{looked-bounds}
 use Rattle.desk.proofs.Submits.{place, no-place, some-place}
-use Rattle.desk.proofs.Choose.{Choice, nearest}
-use Rattle.desk.proofs.Choose as choice
-use Rattle.desk.proofs.Served.{member-is}
 use Rattle.desk.proofs.Looking.{looking, nobody, row, all-looked, is-member}
 use Rattle.desk.proofs.Looking as look
 use Rattle.desk.proofs.Turns as turns
@@ -139,44 +135,16 @@ module _ (n last k most : ℕ) (e : most ≡ (if may-turn n last then n else 0))
       let b = is-member n last k j (a .1) (a .2) f in
       (b .0, omega arith, a .0)
 
--- nobody's record is none, and any other member's is there
-empties-with : (rs : List (List ℕ)) (j : ℕ) → (j ≡ 0) ⊎ (may-submit (length rs) j ≡ true) → emptied rs j ≡ with-record rs j fresh
-unfolding emptied
-empties-with rs j (inl e) = rw e (go (may-submit (length rs) 0))
-  where
-    go : (b : Bool) → (if b then rs else rs) ≡ rs
-    go true = refl
-    go false = refl
-empties-with rs j (inr t) = rw t
-
 module _ (m l : List ℕ) (rs : List (List ℕ)) (last : ℕ) where
   abbrev ds : List Desk
   ds = desks-of rs
 
-  abbrev Seat : ℕ → Type 0
-  Seat j = (j ≡ 0) ⊎ (may-submit (length rs) j ≡ true)
-
-  refused-member : may-turn (length ds) last ≡ false → turn m l ds last .answer .member ≡ 0
-  unfolding serve-turn
-  refused-member t = rw t
-
-  one-of : may-turn (length ds) last ≡ true → (k : ℕ) → Choice ds last k → Seat k
-  one-of t k (choice.nobody f) = inl refl
-  one-of t k (nearest a b f n) =
-      inr (rw (length-map rs desk-of) at (submit-may (length ds) k (may-turn-true (length ds) last t .1) a b))
-
-  seat : Seat (turn m l ds last .answer .member)
-  seat = go (may-turn (length ds) last) refl
-    where
-      by-member : may-turn (length ds) last ≡ true
-          → (turn m l ds last .answer .member ≡ 0) ⊎ (turn m l ds last .answer .member ≡ choose ds last)
-          → Seat (turn m l ds last .answer .member)
-      by-member t (inl e) = inl e
-      by-member t (inr e) = rw e (one-of t (choose ds last) (choice.chosen ds last (may-turn-true (length ds) last t .2)))
-
-      go : (b : Bool) → may-turn (length ds) last ≡ b → Seat (turn m l ds last .answer .member)
-      go true t = by-member t (member-is m l (length ds) last (choose ds last) (held ds (choose ds last)))
-      go false t = inl (refused-member t)
+  empties-served : emptied rs (turn m l ds last .answer .member) ≡ turn-records m l rs last
+  unfolding emptied
+  empties-served =
+      let j = turn m l ds last .answer .member in
+      turns.untested (length rs) (λ j. with-record rs j fresh) j
+      (subst (λ (n : ℕ). turns.Seat n j) (length-map rs desk-of) (turns.seat m l ds last))
 
   pub leaves : (c : Chosen) {r : Turn} {m′ l′ : List ℕ} {rs′ : List (List ℕ)} → c ≡ chosen ds last
       → let t = serve-turn m l (length rs) last (c .member) (c .desk) in (r ≡ t .answer) × (m′ ≡ t .pool) × (l′ ≡ t .list)
@@ -187,8 +155,7 @@ module _ (m l : List ℕ) (rs : List (List ℕ)) (last : ℕ) where
       × (m′ ≡ serve-turn m l (length ds) last (c .member) (c .desk) .pool)
       × (l′ ≡ serve-turn m l (length ds) last (c .member) (c .desk) .list) = rw (length-map rs desk-of) s in
       let a = turns.leaves m l ds last c e s′ refl in
-      let after = ap (λ (r : Turn). emptied rs (r .member)) (a .0) ∙ empties-with rs _ seat in
-      (a .0, a .1, a .2, k ∙ after)
+      (a .0, a .1, a .2, k ∙ (ap (λ (r : Turn). emptied rs (r .member)) (a .0) ∙ empties-served))
 
   -- the records after a turn are read as the desks after it
   pub turned : desks-of (turn-records m l rs last) ≡ turn-desks m l ds last

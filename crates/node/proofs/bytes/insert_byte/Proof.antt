@@ -1,8 +1,6 @@
 -- `node::insert_byte` meets its contract.
 use Prim.Native.Nat.{_*_}
-use native.Mathlib.Nat.{mod-lt}
 use native.Mathlib.Omega.{arith}
-use lib.Pow.{pow-pos}
 use Rattle.node.proofs.Joins.{inserted}
 use Rattle.node.proofs.Digits.{bytes-put-in}
 use borrow.Author.Needs.{needs}
@@ -24,9 +22,8 @@ low-bytes-requires c κs = search needs
 returns : tie.Need-returns
 returns c =
     let s = c .before in
-    rw (c .low-bytes .ensures)
-    (rw (inserted (8 * s .args .i) (omega arith) (s .pre .2) (s .pre .1) (mod-lt (s .args .w) (pow-pos (8 * s .args .i))))
-    (λ n h. bytes-put-in (s .args .i) n (s .args .w) (s .args .b) (s .pre .1) h))
+    rw (c .low-bytes .ensures, inserted (8 * s .args .i) (omega arith) (s .pre .2) (s .pre .1))
+    (λ n h. bytes-put-in (s .args .i) n (s .args .w) (s .args .b) (s .pre .1) h)
 
 pub insert-byte-spec : {M : Type 1} → statement M
 insert-byte-spec = tie.close (tie.spec mul-k shr-result shl-result low-bytes-requires returns)

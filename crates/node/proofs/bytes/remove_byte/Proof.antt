@@ -1,8 +1,6 @@
 -- `node::remove_byte` meets its contract.
 use Prim.Native.Nat.{_*_}
-use native.Mathlib.Nat.{mod-lt}
 use native.Mathlib.Omega.{arith}
-use lib.Pow.{pow-pos}
 use Rattle.node.proofs.Joins.{lifted}
 use Rattle.node.proofs.Digits.{bytes-taken-out}
 use borrow.Author.Needs.{needs}
@@ -24,9 +22,8 @@ low-bytes-requires c κs = search needs
 returns : tie.Need-returns
 returns c =
     let s = c .before in
-    rw (c .low-bytes .ensures)
-    (rw (lifted (8 * s .args .i) (omega arith) (s .fits .w .fits) (mod-lt (s .args .w) (pow-pos (8 * s .args .i))))
-    (λ n h. bytes-taken-out (s .args .i) n (s .args .w) h))
+    rw (c .low-bytes .ensures, lifted (8 * s .args .i) (omega arith) (s .fits .w .fits))
+    (λ n h. bytes-taken-out (s .args .i) n (s .args .w) h)
 
 pub remove-byte-spec : {M : Type 1} → statement M
 remove-byte-spec = tie.close (tie.spec mul-k shr-result shl-result low-bytes-requires returns)
