@@ -6,19 +6,19 @@ use mathlib.Core.List.{List, [], _∷_, _++_, map}
 use mathlib.Core.Bool.{true, false, and-false}
 use native.Mathlib.Omega.{arith}
 use lib.ListN.{length, getD, set, length-map, List·getD-map}
-use lib.Dec.{ltb}
+use lib.Dec.{ltb, lit≤}
 use borrow.Author.Tests.{lt-ltb, eq-eqb, ltb-true}
 use Rattle.words.specs.Pool.{node-at, node-words}
 use Rattle.words.specs.Event.{at}
 use Rattle.words.specs.Blocks.{Pair}
-use Rattle.words.proofs.Tests.{both, differ}
+use Rattle.words.proofs.Tests.{differ}
 use Rattle.words.proofs.Blocks.{Off}
 use Rattle.node.specs.Lists.{insert, remove, has, all-below, different}
 use Rattle.node.specs.Slot.{byte, names, slot, entries}
 use Rattle.node.specs.View.{Record, View, view, entry, keys, rank, slot-at, link-at, key-at, value-at}
 use Rattle.node.proofs.Slots.{names-slot, length-names}
 use Rattle.node.proofs.Places.{length-insert, length-remove, map-insert, map-remove, insert-remove}
-use Rattle.node.proofs.Every.{below-insert, below-remove, below-at, below-every, every-has}
+use Rattle.node.proofs.Every.{below-more, below-insert, below-remove, below-at, below-every, every-has}
 use Rattle.node.proofs.Sets.{different-insert, different-remove, has-remove}
 use Rattle.node.proofs.Spots.{spot-below, spot-unused}
 use Rattle.node.proofs.Views.{view-words, view-names, record-at, map-same}
@@ -42,14 +42,6 @@ view-still m m′ k n f =
     sym (view-words m m′ k (λ i h. sym (f (node-at k + i) (omega arith, omega arith))) (rw (view-names m k) at (n .small)))
 
 -- the names of a node that is written
-below-byte : (ns : List ℕ) → all-below entries ns ≡ true → all-below byte ns ≡ true
-unfolding all-below
-below-byte [] h = refl
-below-byte (x ∷ ns) h =
-    let t = both {a = ltb x entries} {b = all-below entries ns} h in
-    let l : x < entries = ltb-true x entries (t .0) in
-    rw (lt-ltb x byte (omega arith), below-byte ns (t .1))
-
 node-says : (m : List ℕ) {k link : ℕ} {rs : List Record} (ns : List ℕ) → names (at m (slot-at k)) ≡ ns → at m (link-at k) ≡ link
     → map (entry m k) ns ≡ rs → all-below entries ns ≡ true → different ns ≡ true → Says (view m) k link rs
 unfolding view
@@ -61,7 +53,7 @@ node-says m {k} {link} {rs} ns s l e small apart = says view-is (sym (length-map
 pub slot-says : (m : List ℕ) {k link : ℕ} {rs : List Record} (ns : List ℕ) → at m (slot-at k) ≡ slot ns → at m (link-at k) ≡ link
     → map (entry m k) ns ≡ rs → length ns ≤ entries → all-below entries ns ≡ true → different ns ≡ true → Says (view m) k link rs
 slot-says m ns s l e few small apart =
-    node-says m ns (rw s (names-slot ns (omega arith) (below-byte ns small))) l e small apart
+    node-says m ns (rw s (names-slot ns (omega arith) (below-more entries byte ns (lit≤ tt) small))) l e small apart
 
 -- names, each below 7, and all different
 pub name-small : (x : ℕ) (ns : List ℕ) → all-below entries ns ≡ true → has x ns ≡ true → x < entries

@@ -1,6 +1,6 @@
 -- The header's tests, taken apart and put together: what passes them, that what breaks one fails, and that they look at words 0 to 7
 -- and the length alone.
-use Prim.Native.Nat.{ℕ, _+_, _≤_, _<_}
+use Prim.Native.Nat.{ℕ, _≤_, _<_}
 use mathlib.Core.Path.{_≡_, refl, sym, _∙_}
 use mathlib.Core.List.{List}
 use mathlib.Core.Bool.{Bool, true, false, _&&_}
@@ -125,10 +125,6 @@ form-same m m′ s h = rw (s, h 0 (omega arith), h 1 (omega arith), h 2 (omega a
 pub counts-same : (m m′ : List ℕ) → ((w : ℕ) → w < p.commit-at → at m′ w ≡ at m w) → counts-agree m′ ≡ counts-agree m
 unfolding counts-agree
 counts-same m m′ h = rw (h 4 (omega arith), h 5 (omega arith), h 6 (omega arith), h 7 (omega arith))
-
--- a node lies inside the slice
-pub node-inside : {m : List ℕ} {k : ℕ} → Form m → k ≤ capacity-of m → p.node-at k + p.node-words ≤ length m
-node-inside s h = omega (arith, s .total, s .room)
 
 -- the same length and words 0 to 8: then only the tree is left
 module _ (m m′ : List ℕ) (size : length m′ ≡ length m) (header : (i : ℕ) → i ≤ p.commit-at → at m′ i ≡ at m i) where
