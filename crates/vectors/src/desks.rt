@@ -1,11 +1,11 @@
 // Rows of submits and turns on lent desks, with the answers that were worked out by hand.
-use crate::asking::make;
 use crate::report::tell_whether;
 use crate::steps::Step;
 use crate::steps::run;
 use change::Outcome;
 use change::Request;
 use desk::Turned;
+use trials::asking::make;
 use words::Refusal;
 ghost use Prim.Native.Nat.{_≤_};
 

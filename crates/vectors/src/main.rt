@@ -1,21 +1,17 @@
 // Rows of requests on fresh pools. Each answer is compared with a list that the program keeps itself; the events, the refusals and the
 // height of each case with numbers that were worked out apart from it. The answers of rows of submits and turns are compared with answers
 // worked out apart. Prints a line a case.
-mod asking;
 mod desks;
 mod lending;
-mod model;
 mod report;
-mod rows;
 mod seen;
 mod steps;
-mod tally;
 
 use report::Want;
 use report::tell;
-use rows::Part;
-use rows::Row;
-use rows::play;
+use trials::rows::Part;
+use trials::rows::Row;
+use trials::rows::play;
 ghost use Prim.Native.Nat.{_≤_};
 
 // One leaf, the splits of a full one, and pools that have no node to spare.

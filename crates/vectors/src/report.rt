@@ -1,6 +1,6 @@
 // A line for each case: that it is ok, or what came.
-use crate::tally::Tally;
 use libc::STDOUT_FILENO;
+use trials::tally::Tally;
 
 // The events, refusals and height that were worked out.
 pub struct Want {

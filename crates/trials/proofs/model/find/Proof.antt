@@ -1,8 +1,8 @@
 -- Invariant: i is at most the list's room.
 use borrow.Author.Needs.{needs}
 use Prim.Native.Nat.{_-_, _≤_}
-use Rattle.vectors.proofs.model.find.Statement.{statement}
-use Rattle.vectors.proofs.model.find.Tie as tie
+use Rattle.trials.proofs.model.find.Statement.{statement}
+use Rattle.trials.proofs.model.find.Tie as tie
 
 abbrev Inv-loop : tie.InvT-loop
 Inv-loop keys n key i₀ i = i ≤ 1024

@@ -3,8 +3,8 @@ use borrow.Author.Needs.{needs}
 use Prim.Native.Nat.{_-_}
 use mathlib.Core.Path.{_≡_}
 use lib.ListN.{length}
-use Rattle.vectors.proofs.rows.run.Statement.{statement}
-use Rattle.vectors.proofs.rows.run.Tie as tie
+use Rattle.trials.proofs.rows.run.Statement.{statement}
+use Rattle.trials.proofs.rows.run.Tie as tie
 
 abbrev Inv-loop : tie.InvT-loop
 Inv-loop pool₀ list₀ keys₀ values₀ part now₀ i₀ pool list keys values now i =
