@@ -8,6 +8,9 @@ use std::process::Command;
 /// Where Debian's package of libpmemobj keeps PMDK's example of a tree.
 const PMDK_EXAMPLES: &str = "/usr/share/doc/libpmemobj-dev/examples/tree_map";
 
+/// No such file: as long as cargo is told to watch it, it runs this script at each build, and so a library is found once it is installed.
+const NEVER_THERE: &str = "c/never-there";
+
 /// A peer in C: its cfg and its file's name, its library, and further sources with the folder of their headers.
 struct Source {
     name: &'static str,
@@ -55,6 +58,7 @@ fn main() {
             println!("cargo::rustc-link-lib=static=peer_{}", source.name);
             println!("cargo::rustc-link-lib={}", source.library);
         } else {
+            println!("cargo::rerun-if-changed={NEVER_THERE}");
             println!(
                 "cargo::warning={} is left out: lib{} or its header is not there",
                 source.name, source.library

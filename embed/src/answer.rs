@@ -14,7 +14,10 @@ pub enum Request {
 }
 
 /// What came of a fetch, a put or a delete that was not refused.
+///
+/// More will come with further requests, so a `match` outside this crate needs an arm for the rest.
 #[derive(Clone, Copy, Debug, PartialEq, Eq)]
+#[non_exhaustive]
 pub enum Outcome {
     /// A put of a key that was absent.
     New,

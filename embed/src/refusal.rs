@@ -3,7 +3,10 @@
 use std::fmt;
 
 /// Why a call was refused. A refusal leaves everything lent unchanged.
+///
+/// More will come with further calls, so a `match` outside this crate needs an arm for the rest.
 #[derive(Clone, Copy, Debug, PartialEq, Eq, Hash)]
+#[non_exhaustive]
 pub enum Refusal {
     /// 1: the event list is under 372 words.
     ShortList = 1,
@@ -33,7 +36,7 @@ pub enum Refusal {
 
 impl Refusal {
     /// Every refusal, in the order of the numbers.
-    pub const ALL: [Refusal; 12] = [
+    pub const ALL: &'static [Refusal] = &[
         Refusal::ShortList,
         Refusal::NoPool,
         Refusal::Unfinished,
@@ -55,7 +58,7 @@ impl Refusal {
 
     /// The refusal of this number, if there is one.
     pub fn of_number(number: u64) -> Option<Refusal> {
-        Refusal::ALL.into_iter().find(|r| r.number() == number)
+        Refusal::ALL.iter().copied().find(|r| r.number() == number)
     }
 
     fn words(self) -> &'static str {
@@ -97,7 +100,7 @@ mod tests {
     #[test]
     fn a_number_names_its_refusal_and_no_other_number_does() {
         for refusal in Refusal::ALL {
-            assert_eq!(Refusal::of_number(refusal.number()), Some(refusal));
+            assert_eq!(Refusal::of_number(refusal.number()), Some(*refusal));
         }
         for number in [0, 13, 256 + 1, u64::MAX] {
             assert_eq!(Refusal::of_number(number), None);

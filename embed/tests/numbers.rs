@@ -53,8 +53,9 @@ fn hold_together(first: &Numbers, others: &[(&str, Numbers)]) {
 #[test]
 fn refusals() {
     let ours = Refusal::ALL
+        .iter()
         .map(|refusal| (shouted(&format!("{refusal:?}")), refusal.number()))
-        .into();
+        .collect();
     let header = part(&text("embed/c/ombykape.h"), "enum ombykape_refusal {", "};");
     let definition = text("crates/words/specs/Refusals.antt");
     hold_together(

@@ -12,6 +12,7 @@ pub fn outcome(outcome: ombykape::Outcome) -> Outcome {
         ombykape::Outcome::Removed => Outcome::Removed,
         ombykape::Outcome::Absent => Outcome::Absent,
         ombykape::Outcome::Found(value) => Outcome::Found(value),
+        other => panic!("the model has no outcome {other:?}"),
     }
 }
 

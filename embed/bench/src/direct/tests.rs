@@ -72,13 +72,17 @@ fn direct<R: Reach>(words: &mut [u64], request: u64, key: u64) -> Came {
     }
 }
 
+/// The same words thrice, for the proved pool and the two that it is held against.
+fn thrice(words: &[u64]) -> [Vec<u64>; 3] {
+    [words.to_vec(), words.to_vec(), words.to_vec()]
+}
+
 /// Asks one request of all three; how it came out, if they agree on that and on every word.
-fn agreed(words: &mut Vec<u64>, request: u64, key: u64) -> Came {
-    let (mut safe, mut unchecked) = (words.clone(), words.clone());
+fn agreed([words, safe, unchecked]: &mut [Vec<u64>; 3], request: u64, key: u64) -> Came {
     let came = proved(words, request, key);
-    assert_eq!(direct::<Safe>(&mut safe, request, key), came);
-    assert_eq!(direct::<Unchecked>(&mut unchecked, request, key), came);
-    assert!(*words == safe && *words == unchecked, "{came:?} left other words");
+    assert_eq!(direct::<Safe>(safe, request, key), came);
+    assert_eq!(direct::<Unchecked>(unchecked, request, key), came);
+    assert!(words == safe && words == unchecked, "{came:?} left other words");
     came
 }
 
@@ -95,11 +99,12 @@ fn some_key(random: &mut Random, keys: &[u64]) -> u64 {
 #[test]
 fn sound_pools_are_changed_alike_until_they_are_full() {
     let mut random = Random::new(1);
-    let (mut words, keys) = loaded(&mut random);
+    let (words, keys) = loaded(&mut random);
+    let mut pools = thrice(&words);
     let mut full = false;
     for _ in 0..20_000 {
         let key = some_key(&mut random, &keys);
-        let came = agreed(&mut words, random.next() % 3, key);
+        let came = agreed(&mut pools, random.next() % 3, key);
         assert!(came.is_ok() || came == Err(Refused::NoRoom as u64));
         full |= came.is_err();
     }
@@ -114,9 +119,10 @@ fn damaged_pools_are_refused_alike() {
     for _ in 0..4_000 {
         let mut words = sound.clone();
         damage(&mut random, &mut words);
+        let mut pools = thrice(&words);
         for _ in 0..12 {
             let key = some_key(&mut random, &keys);
-            if let Err(number) = agreed(&mut words, random.next() % 3, key) {
+            if let Err(number) = agreed(&mut pools, random.next() % 3, key) {
                 met[number as usize] += 1;
             }
         }

@@ -41,6 +41,7 @@ pub fn fields(request: Request, outcome: Result<Outcome, Refusal>, events: u64) 
         Ok(Outcome::Removed) => "removed".to_string(),
         Ok(Outcome::Absent) => "absent".to_string(),
         Ok(Outcome::Found(value)) => format!("found:{value}"),
+        Ok(unnamed) => format!("{unnamed:?}").to_lowercase(),
         Err(refusal) => format!("refused:{}", refusal.number()),
     };
     format!("{command} {answer} {events}")
