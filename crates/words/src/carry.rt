@@ -63,6 +63,10 @@ fn most_of(list: &[u64], events: u64) -> u64
 pub fn carry_all(pool: &mut [u64], list: &[u64], events: u64)
     ensures { λ _. ⌜ CarryAllPromise (now (pool .entry)) (now (list .entry)) events (now (pool .exit)) ⌝ }
 {
+    // After a fetch: the loop need not be set up.
+    if events == 0 {
+        return;
+    }
     let most = most_of(list, events);
     let mut n = 0;
     while n < most {

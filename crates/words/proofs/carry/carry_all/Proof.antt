@@ -38,9 +38,17 @@ none-left m l n c t end e = go (decLe c n)
     go (yes all) = rw (over c n all) at e
     go (no some) = rw (past-all m l (n + 1) (c - n) (omega arith)) at e
 
+-- no event was planned
+nothing : (m l : List ℕ) (c : ℕ) → c ≡ 0 → m ≡ after-all m l 1 c
+unfolding after-all
+nothing m l c none = rw none
+
+returns : tie.Need-returns Inv-loop μ-loop
+returns c = nothing _ _ _ (c .if1 .taken)
+
 loop-holds : tie.Need-loop-holds Inv-loop μ-loop
 loop-holds c =
-    let s = c .before .before .before .args in
+    let s = c .before .before .before .before .args in
     let all : s .events - 0 ≡ s .events = omega arith in
     (omega arith, refl, rw all)
 
@@ -65,8 +73,8 @@ loop-again c =
 same-length : tie.Need-same-length Inv-loop μ-loop
 same-length c = search needs
 
-returns : tie.Need-returns Inv-loop μ-loop
-returns c = none-left _ _ _ _ _ (omega arith) (c .before .loop .inv .2)
+returns-2 : tie.Need-returns-2 Inv-loop μ-loop
+returns-2 c = none-left _ _ _ _ _ (omega arith) (c .before .loop .inv .2)
 
 pub carry-all-spec : {M : Type 1} → statement M
 carry-all-spec =
@@ -74,6 +82,7 @@ carry-all-spec =
     (tie.spec
     Inv-loop
     μ-loop
+    returns
     most-of-requires
     loop-holds
     add-n
@@ -81,4 +90,4 @@ carry-all-spec =
     loop-less
     loop-again
     same-length
-    returns)
+    returns-2)
