@@ -9,7 +9,7 @@ impl Model {
 }
 
 // Where a key stands among the first n, or the end of the list.
-fn find(keys: &[u64; 1024], n: usize, key: u64) -> usize {
+fn find(keys: &[u64; Model::MOST], n: usize, key: u64) -> usize {
     let mut i = 0;
     while i < Model::MOST {
         if n <= i {
@@ -24,7 +24,12 @@ fn find(keys: &[u64; 1024], n: usize, key: u64) -> usize {
 }
 
 // What a request should be answered.
-pub fn expected(keys: &[u64; 1024], values: &[u64; 1024], n: usize, request: Request) -> Outcome {
+pub fn expected(
+    keys: &[u64; Model::MOST],
+    values: &[u64; Model::MOST],
+    n: usize,
+    request: Request,
+) -> Outcome {
     match request {
         Request::Put(key, _) => {
             if find(keys, n, key) < Model::MOST {
@@ -48,7 +53,13 @@ pub fn expected(keys: &[u64; 1024], values: &[u64; 1024], n: usize, request: Req
     }
 }
 
-fn put(keys: &mut [u64; 1024], values: &mut [u64; 1024], n: usize, key: u64, value: u64) -> usize {
+fn put(
+    keys: &mut [u64; Model::MOST],
+    values: &mut [u64; Model::MOST],
+    n: usize,
+    key: u64,
+    value: u64,
+) -> usize {
     let i = find(keys, n, key);
     if i < Model::MOST {
         values[i] = value;
@@ -63,7 +74,12 @@ fn put(keys: &mut [u64; 1024], values: &mut [u64; 1024], n: usize, key: u64, val
 }
 
 // The last record takes the place of the one that goes.
-fn delete(keys: &mut [u64; 1024], values: &mut [u64; 1024], n: usize, key: u64) -> usize {
+fn delete(
+    keys: &mut [u64; Model::MOST],
+    values: &mut [u64; Model::MOST],
+    n: usize,
+    key: u64,
+) -> usize {
     let i = find(keys, n, key);
     if Model::MOST <= i {
         return n;
@@ -81,8 +97,8 @@ fn delete(keys: &mut [u64; 1024], values: &mut [u64; 1024], n: usize, key: u64) 
 
 // The request is carried out on the list: answers how many records it has then.
 pub fn apply(
-    keys: &mut [u64; 1024],
-    values: &mut [u64; 1024],
+    keys: &mut [u64; Model::MOST],
+    values: &mut [u64; Model::MOST],
     n: usize,
     request: Request,
 ) -> usize {

@@ -1,12 +1,16 @@
 // Rows of keys, and cases made of parts of rows.
+use crate::asking::LIST_WORDS;
+use crate::asking::POOL_WORDS;
 use crate::asking::make;
 use crate::asking::serve;
+use crate::model::Model;
 use crate::model::apply;
 use crate::model::expected;
 use crate::tally::Tally;
 use crate::tally::agree;
 use crate::tally::number_of;
 use change::Request;
+use words::Pool;
 use words::Refusal;
 
 pub struct Row {}
@@ -114,8 +118,8 @@ fn request_of(part: Part, i: u64) -> Request {
 fn step(
     pool: &mut [u64],
     list: &mut [u64],
-    keys: &mut [u64; 1024],
-    values: &mut [u64; 1024],
+    keys: &mut [u64; Model::MOST],
+    values: &mut [u64; Model::MOST],
     request: Request,
     tally: Tally,
 ) -> Tally {
@@ -135,8 +139,8 @@ fn step(
 fn run(
     pool: &mut [u64],
     list: &mut [u64],
-    keys: &mut [u64; 1024],
-    values: &mut [u64; 1024],
+    keys: &mut [u64; Model::MOST],
+    values: &mut [u64; Model::MOST],
     part: Part,
     tally: Tally,
 ) -> Tally {
@@ -151,13 +155,13 @@ fn run(
 
 // Three parts, one after the other, on a fresh pool of a capacity.
 pub fn play(capacity: u64, a: Part, b: Part, c: Part) -> Tally {
-    let mut pool = [0u64; 1672];
-    let mut list = [0u64; 372];
-    let mut keys = [0u64; 1024];
-    let mut values = [0u64; 1024];
+    let mut pool = [0u64; POOL_WORDS];
+    let mut list = [0u64; LIST_WORDS];
+    let mut keys = [0u64; Model::MOST];
+    let mut values = [0u64; Model::MOST];
     make(&mut pool, &mut list, capacity);
     let first = run(&mut pool, &mut list, &mut keys, &mut values, a, Tally::NONE);
     let second = run(&mut pool, &mut list, &mut keys, &mut values, b, first);
     let third = run(&mut pool, &mut list, &mut keys, &mut values, c, second);
-    third.with_height(pool[7])
+    third.with_height(pool[Pool::HEIGHT_AT as usize])
 }

@@ -5,7 +5,11 @@ use crate::steps::run;
 use change::Outcome;
 use change::Request;
 use desk::Turned;
+use trials::asking::CAPACITY;
+use trials::asking::LIST_WORDS;
+use trials::asking::POOL_WORDS;
 use trials::asking::make;
+use words::Pool;
 use words::Refusal;
 ghost use Prim.Native.Nat.{_≤_};
 
@@ -13,9 +17,9 @@ ghost use Prim.Native.Nat.{_≤_};
 fn on_fresh_pool(count: usize, last: u64, row: [Step; 16]) -> bool
     requires { ⌜ count ≤ 17 ⌝ }
 {
-    let mut pool = [0u64; 1672];
-    let mut list = [0u64; 372];
-    make(&mut pool, &mut list, 100);
+    let mut pool = [0u64; POOL_WORDS];
+    let mut list = [0u64; LIST_WORDS];
+    make(&mut pool, &mut list, CAPACITY);
     run(&mut pool, &mut list, count, last, row)
 }
 
@@ -96,22 +100,22 @@ fn last_past_desks() -> bool {
 
 // A list of 371 words: the turn is refused whether or not a desk is full, and leaves it full.
 fn short_list() -> bool {
-    let mut pool = [0u64; 1672];
-    let mut list = [0u64; 372];
-    make(&mut pool, &mut list, 100);
+    let mut pool = [0u64; POOL_WORDS];
+    let mut list = [0u64; LIST_WORDS];
+    make(&mut pool, &mut list, CAPACITY);
     let mut row = [Step::Done; 16];
     row[0] = Step::unserved(Turned::Refused(Refusal::ShortList), 2);
     row[1] = Step::accepted(1, Request::Put(1, 10));
     row[2] = Step::unserved(Turned::Refused(Refusal::ShortList), 2);
     row[3] = Step::refused(1, Request::Put(1, 99), Refusal::FullDesk);
-    let mut short = [0u64; 371];
+    let mut short = [0u64; LIST_WORDS - 1];
     run(&mut pool, &mut short, 3, 2, row)
 }
 
 // "With none full [..]: Idle, on any pool, member 0, 0 events, last served as handed."
 fn none_full() -> bool {
-    let mut pool = [0u64; 88];
-    let mut list = [0u64; 372];
+    let mut pool = [0u64; Pool::WORDS_LEAST as usize];
+    let mut list = [0u64; LIST_WORDS];
     let mut row = [Step::Done; 16];
     row[0] = Step::unserved(Turned::Idle, 2);
     row[1] = Step::unserved(Turned::Idle, 2);
@@ -130,13 +134,13 @@ fn refused_row(request: Request, why: Refusal) -> [Step; 16] {
 }
 
 // A fresh pool of which one word of the header, or the commit word, is another number.
-fn with_word(at: usize, word: u64, why: Refusal) -> bool
+fn with_word(at: u64, word: u64, why: Refusal) -> bool
     requires { ⌜ at ≤ 8 ⌝ }
 {
-    let mut pool = [0u64; 1672];
-    let mut list = [0u64; 372];
-    make(&mut pool, &mut list, 100);
-    pool[at] = word;
+    let mut pool = [0u64; POOL_WORDS];
+    let mut list = [0u64; LIST_WORDS];
+    make(&mut pool, &mut list, CAPACITY);
+    pool[at as usize] = word;
     run(
         &mut pool,
         &mut list,
@@ -168,8 +172,8 @@ fn seven_puts() -> [Step; 16] {
 
 // The only node of a pool is full.
 fn no_room() -> bool {
-    let mut pool = [0u64; 88];
-    let mut list = [0u64; 372];
+    let mut pool = [0u64; Pool::WORDS_LEAST as usize];
+    let mut list = [0u64; LIST_WORDS];
     make(&mut pool, &mut list, 1);
     let filled = run(&mut pool, &mut list, 7, 0, seven_puts());
     let new = refused_row(Request::Put(80, 8), Refusal::NoRoom);
@@ -182,12 +186,18 @@ fn tell_refusals() {
     tell_whether(b"seventeen desks", no_desks(17));
     tell_whether(b"last served past the desks", last_past_desks());
     tell_whether(b"turn with a short list", short_list());
-    tell_whether(b"no pool in a turn", with_word(0, 0, Refusal::NoPool));
+    tell_whether(
+        b"no pool in a turn",
+        with_word(Pool::FORM_AT, 0, Refusal::NoPool),
+    );
     tell_whether(
         b"unfinished in a turn",
-        with_word(8, 1, Refusal::Unfinished),
+        with_word(Pool::COMMIT_AT, 1, Refusal::Unfinished),
     );
-    tell_whether(b"damaged in a turn", with_word(6, 2, Refusal::Damaged));
+    tell_whether(
+        b"damaged in a turn",
+        with_word(Pool::ROOT_AT, 2, Refusal::Damaged),
+    );
     tell_whether(b"no room in a turn", no_room());
 }
 

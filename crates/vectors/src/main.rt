@@ -9,6 +9,7 @@ mod steps;
 
 use report::Want;
 use report::tell;
+use trials::asking::CAPACITY;
 use trials::rows::Part;
 use trials::rows::Row;
 use trials::rows::play;
@@ -20,27 +21,27 @@ fn leaves() {
     let eighth = Part::put(Row::RISING, 7, 8);
     tell(
         b"leaf",
-        play(100, leaf, Part::NONE, Part::NONE),
+        play(CAPACITY, leaf, Part::NONE, Part::NONE),
         Want::of(49, 0, 1),
     );
     tell(
         b"replace",
-        play(100, leaf, leaf, Part::NONE),
+        play(CAPACITY, leaf, leaf, Part::NONE),
         Want::of(70, 0, 1),
     );
     tell(
         b"delete",
-        play(100, leaf, Part::delete(Row::RISING, 2, 3), leaf),
+        play(CAPACITY, leaf, Part::delete(Row::RISING, 2, 3), leaf),
         Want::of(77, 0, 1),
     );
     tell(
         b"split above",
-        play(100, leaf, eighth, Part::NONE),
+        play(CAPACITY, leaf, eighth, Part::NONE),
         Want::of(96, 0, 2),
     );
     tell(
         b"split below",
-        play(100, leaf, Part::put(Row::LOW, 0, 1), Part::NONE),
+        play(CAPACITY, leaf, Part::put(Row::LOW, 0, 1), Part::NONE),
         Want::of(104, 0, 2),
     );
     tell(
@@ -62,7 +63,7 @@ fn tell_row(name: &[u8], row: u64, count: u64, want: Want)
     let fetches = Part::fetch(row, 0, count + 50);
     tell(
         name,
-        play(100, Part::put(row, 0, count), fetches, Part::NONE),
+        play(CAPACITY, Part::put(row, 0, count), fetches, Part::NONE),
         want,
     );
 }
@@ -98,12 +99,12 @@ fn deletes() {
     let some = Part::delete(Row::SCATTERED, 50, 200);
     tell(
         b"emptied",
-        play(100, puts, all, Part::fetch(Row::SCATTERED, 0, 250)),
+        play(CAPACITY, puts, all, Part::fetch(Row::SCATTERED, 0, 250)),
         Want::of(4671, 0, 3),
     );
     tell(
         b"put again",
-        play(100, puts, some, puts),
+        play(CAPACITY, puts, some, puts),
         Want::of(5721, 0, 3),
     );
 }

@@ -1,5 +1,5 @@
 -- Events written into a list read back as the same events, and carrying them out from there runs them.
-use Prim.Native.Nat.{ℕ, suc, _+_, _-_, _*_, _/_, _%_, _≤_, _<_}
+use Prim.Native.Nat.{ℕ, zero, suc, _+_, _-_, _*_, _/_, _%_, _≤_, _<_}
 use mathlib.Core.Path.{_≡_, refl, sym, _∙_, ap, subst}
 use mathlib.Core.Bool.{true}
 use mathlib.Core.Logic.{_⊎_, inl, inr}
@@ -115,6 +115,12 @@ inside-keeps m n (e ∷ es) same h = (sym (inside-step m n e same) ∙ h .0, ins
 
 done-one : (m : List ℕ) (e : Event) (o : Option Event) → o ≡ some e → inside m e ≡ true → (after m o ≡ step m e) × (carried m o ≡ Done)
 done-one m e o is h = rw (is, h) (refl, refl)
+
+-- past the list's end there is no event: however many are carried out from there, the pool is as it was
+pub past-all : (m l : List ℕ) (n c : ℕ) → length l / 2 < n → after-all m l n c ≡ m
+unfolding after-all
+past-all m l n zero past = refl
+past-all m l n (suc c) past = rw (event-past l n past) (past-all m l (suc n) c (omega arith))
 
 -- carried out one after the other, none is refused, and they leave what running them leaves
 pub carried-all : (m l : List ℕ) (n : ℕ) (es : List Event) → Lists l n es → Inside m es

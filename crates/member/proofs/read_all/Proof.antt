@@ -8,7 +8,7 @@ use Rattle.member.proofs.read_all.Tie as tie
 
 abbrev Inv-loop : tie.InvT-loop
 Inv-loop pool₀ list₀ out₀ now₀ turns₀ pool list out now turns =
-    (now .seat .used ≤ 4096) × (length pool ≡ length pool₀) × (length list ≡ length list₀)
+    (now .seat .output .used ≤ 4096) × (length pool ≡ length pool₀) × (length list ≡ length list₀)
 
 abbrev μ-loop : tie.MeasureT-loop
 μ-loop pool₀ list₀ out₀ now₀ turns₀ pool list out now turns = turns

@@ -8,7 +8,7 @@ use Rattle.member.proofs.sitting.feed.Tie as tie
 
 abbrev Inv-loop : tie.InvT-loop
 Inv-loop pool₀ list₀ out₀ block sitting taker₀ seat₀ i₀ pool list out taker seat i =
-    (i ≤ length block) × (seat .used ≤ 4096) × (length pool ≡ length pool₀) × (length list ≡ length list₀)
+    (i ≤ length block) × (seat .output .used ≤ 4096) × (length pool ≡ length pool₀) × (length list ≡ length list₀)
 
 abbrev μ-loop : tie.MeasureT-loop
 μ-loop pool₀ list₀ out₀ block sitting taker₀ seat₀ i₀ pool list out taker seat i = length block - i

@@ -29,7 +29,7 @@ returns c =
     let outcome-of = c .before in
     let ask = outcome-of .before .before .before .before .before .before .before in
     let room = ask .before .before .before in
-    let s = room .before .before .before .before in
+    let s = room .before .before .before .before .before in
     let request = Ask (s .args .request) in
     omega (
       arith,
