@@ -4,6 +4,7 @@ pub mod Bounds
 pub mod Round
 pub mod Looking
 pub mod Served
+pub mod TwoSteps
 pub mod Choose
 pub mod Desks
 pub mod Submits

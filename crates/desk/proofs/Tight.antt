@@ -8,7 +8,7 @@ use contract.Lifetimes.{Lfts}
 use denote.Triple.Entry.{Args, Res}
 use denote.Triple.Spec.{exits}
 use denote.Ref.{now}
-use Rattle.words.proofs.Answers.{one-outcome, both-same}
+use Rattle.words.proofs.Answers.{one-outcome, both-given, both-same}
 use Rattle.words.proofs.Tight.{Tight}
 use Rattle.change.specs.declared.Request.{Request}
 use Rattle.desk.specs.declared.record.Desk.{Desk}
@@ -16,15 +16,16 @@ use Rattle.desk.specs.declared.answer.Submitted.{Submitted}
 use Rattle.desk.specs.declared.answer.Turn.{Turn}
 use Rattle.desk.specs.declared.asking.Asked.{Asked}
 use Rattle.desk.specs.Desk.{fresh}
-use Rattle.desk.specs.Promises.{SubmitPromise, TurnPromise}
+use Rattle.desk.specs.Promises.{SubmitPromise, PlanTurnPromise, TurnPromise}
 use Rattle.desk.proofs.Kit.{URA, Heap, Atoms, Memory, Routine, Fun, SProp, fact, emp}
 use Rattle.desk.proofs.Answers.{submit-told, turn-told}
 use Rattle.desk.proofs.submitting.submit as submit
+use Rattle.desk.proofs.turning.plan_turn as plan-turn
 use Rattle.desk.proofs.turning.turn as turn
 use Rattle.desk.proofs.asking.ask.Kinds as ask
 use Rattle.desk.proofs.asking.ask.Reads as ask-reads
-use Rattle.desk.proofs.serving.serve_chosen.Kinds as serve-chosen
-use Rattle.desk.proofs.serving.serve_chosen.Reads as serve-chosen-reads
+use Rattle.desk.proofs.serving.plan_chosen.Kinds as plan-chosen
+use Rattle.desk.proofs.serving.plan_chosen.Reads as plan-chosen-reads
 use Rattle.desk.proofs.submitting.seat.Kinds as seat
 use Rattle.desk.proofs.submitting.seat.Reads as seat-reads
 use Rattle.desk.proofs.choosing.looked_at.Kinds as looked-at
@@ -34,7 +35,7 @@ use Rattle.desk.proofs.choosing.looked_member.Reads as looked-member-re
 use Rattle.desk.proofs.choosing.note.Kinds as note
 use Rattle.desk.proofs.choosing.note.Reads as note-reads
 
--- submit and turn are walked by hand: in every model the contract asks nothing, and ensures the promise and that alone ..
+-- submit, turn and plan_turn are walked by hand: in every model the contract asks nothing, and ensures the promise and that alone ..
 module _ {M : Type 1} (𝓤 : URA M) (H : Heap 𝓤) (A : Atoms 𝓤) (mem : Memory → SProp 𝓤) (run : Routine → Fun 𝓤) where
   pub submit-requires : (κs : Lfts 1) (a : Args submit.signature κs) → submit.spec 𝓤 H A mem run κs a .requires tt ≡ emp 𝓤
   submit-requires κs a = refl
@@ -53,6 +54,14 @@ module _ {M : Type 1} (𝓤 : URA M) (H : Heap 𝓤) (A : Atoms 𝓤) (mem : Mem
       (now (x .1 .1 .0))))
   turn-ensures κs a r = refl
 
+  pub plan-turn-requires : (κs : Lfts 3) (a : Args plan-turn.signature κs) → plan-turn.spec 𝓤 H A mem run κs a .requires tt ≡ emp 𝓤
+  plan-turn-requires κs a = refl
+
+  pub plan-turn-ensures : (κs : Lfts 3) (a : Args plan-turn.signature κs) (r : Res plan-turn.signature κs)
+      → plan-turn.spec 𝓤 H A mem run κs a .ensures tt r ≡ exits 𝓤 H A plan-turn.signature (plan-turn.ended .kept) κs a
+      (λ x. fact 𝓤 (PlanTurnPromise (now (a .0)) (now (a .1 .0)) (now (a .1 .1 .0)) (a .1 .1 .1 .0) r (now (x .1 .0)) (now (x .1 .1 .0))))
+  plan-turn-ensures κs a r = refl
+
 -- .. and the promise leaves no choice
 pub submit-tight : (ds : List Desk) (member : ℕ) (q : Request) (r s : Submitted) (x y : List Desk)
     → SubmitPromise ds member q r x → SubmitPromise ds member q s y → (r ≡ s) × (x ≡ y)
@@ -62,6 +71,10 @@ pub turn-tight : (m l : List ℕ) (ds : List Desk) (last : ℕ) (r s : Turn) (x�
     → TurnPromise m l ds last r x₀ x₁ x₂ → TurnPromise m l ds last s y₀ y₁ y₂ → (r ≡ s) × (x₀ ≡ y₀) × (x₁ ≡ y₁) × (x₂ ≡ y₂)
 turn-tight m l ds last r s x₀ y₀ x₁ y₁ x₂ y₂ h k =
     (turn-told r s (h .0 ∙ sym (k .0)), h .1 ∙ sym (k .1), h .2 ∙ sym (k .2), h .3 ∙ sym (k .3))
+
+pub plan-turn-tight : (m l : List ℕ) (ds : List Desk) (last : ℕ) (r s : Turn) (x₁ y₁ : List ℕ) (x₂ y₂ : List Desk)
+    → PlanTurnPromise m l ds last r x₁ x₂ → PlanTurnPromise m l ds last s y₁ y₂ → (r ≡ s) × (x₁ ≡ y₁) × (x₂ ≡ y₂)
+plan-turn-tight m l ds last r s x₁ y₁ x₂ y₂ h k = (turn-told r s (h .0 ∙ sym (k .0)), h .1 ∙ sym (k .1), h .2 ∙ sym (k .2))
 
 -- the parts of an answer to ask
 asked-is : {a b : Submitted} {t u : Turn} {d e : Desk} → a ≡ b → t ≡ u → d ≡ e
@@ -79,14 +92,11 @@ ask-tight = record {
       (asked-is submitted turn desk, both-same (h .2 ∙ sym (k .2)) (h .3 ∙ sym (k .3)));
 }
 
-pub serve-chosen-tight : Tight 2 serve-chosen.ps serve-chosen.r {B = List ℕ × List ℕ} serve-chosen-reads.Asked
-    serve-chosen-reads.Learnt (λ κs x. (now (x .0), now (x .1 .0)))
-serve-chosen-tight = record {
-  free = λ κs a. tt;
-  one = λ κs a r s x y h k. (h .0 ∙ sym (k .0), both-same (h .1 ∙ sym (k .1)) (h .2 ∙ sym (k .2)));
-}
+-- and the functions under submit and turn that the crate above calls: one is lent a pool to read, and a list
+pub plan-chosen-tight : Tight 2 plan-chosen.ps plan-chosen.r plan-chosen-reads.Asked plan-chosen-reads.Learnt (λ κs x. now (x .1 .0))
+plan-chosen-tight = record { free = λ κs a. tt; one = λ κs a r s x y. both-given }
 
--- and the functions under submit and turn that the crate above calls: nothing is lent to them
+-- and nothing to the others
 pub seat-tight : Tight 0 seat.ps seat.r {B = Unit {0}} seat-reads.Asked seat-reads.Learnt (λ κs x. tt)
 seat-tight = record { free = λ κs a. tt; one = λ κs a r s x y h k. (h ∙ sym k, refl) }
 

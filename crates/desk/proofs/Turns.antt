@@ -68,15 +68,10 @@ module _ (m l : List ℕ) (ds : List Desk) (last : ℕ) where
   unfolding emptied
   empties-served = untested (length ds) (λ j. with-desk ds j fresh) (turn m l ds last .answer .member) seat
 
-  pub leaves : (c : Chosen) {r : Turn} {m′ l′ : List ℕ} {ds′ : List Desk} → c ≡ chosen ds last
-      → let t = serve-turn m l (length ds) last (c .member) (c .desk) in (r ≡ t .answer) × (m′ ≡ t .pool) × (l′ ≡ t .list)
-      → ds′ ≡ emptied ds (r .member)
-      → (r ≡ turn m l ds last .answer) × (m′ ≡ turn m l ds last .pool) × (l′ ≡ turn m l ds last .list) × (ds′ ≡ turn-desks m l ds last)
-  leaves c e (f, g, h) k =
+  pub leaves : (c : Chosen) {r : Turn} {l′ : List ℕ} {ds′ : List Desk} → c ≡ chosen ds last
+      → let t = serve-turn m l (length ds) last (c .member) (c .desk) in (r ≡ t .answer) × (l′ ≡ t .list) → ds′ ≡ emptied ds (r .member)
+      → (r ≡ turn m l ds last .answer) × (l′ ≡ turn m l ds last .list) × (ds′ ≡ turn-desks m l ds last)
+  leaves c e (f, h) k =
       let all = serves-chosen c e in
-      let f′ = f ∙ ap (λ (t : Left). t .answer) all in (
-        f′,
-        g ∙ ap (λ (t : Left). t .pool) all,
-        h ∙ ap (λ (t : Left). t .list) all,
-        k ∙ (ap (λ (r : Turn). emptied ds (r .member)) f′ ∙ empties-served),
-      )
+      let f′ = f ∙ ap (λ (t : Left). t .answer) all in
+      (f′, h ∙ ap (λ (t : Left). t .list) all, k ∙ (ap (λ (r : Turn). emptied ds (r .member)) f′ ∙ empties-served))

@@ -21,16 +21,9 @@ fn nobody(turned: Turned, last: u64) -> Turn
     }
 }
 
-// A turn on so many desks, of which one is chosen.
-pub fn serve_chosen(
-    pool: &mut [u64],
-    list: &mut [u64],
-    desks: usize,
-    last: u64,
-    chosen: Chosen,
-) -> Turn
+// A turn on so many desks, of which one is chosen: its events are planned, and left to the caller.
+pub fn plan_chosen(pool: &[u64], list: &mut [u64], desks: usize, last: u64, chosen: Chosen) -> Turn
     ensures { λ r. ⌜ (r ≡ serve-turn (now (pool .entry)) (now (list .entry)) desks last (chosen .member) (chosen .desk) .answer)
-        × (now (pool .exit) ≡ serve-turn (now (pool .entry)) (now (list .entry)) desks last (chosen .member) (chosen .desk) .pool)
         × (now (list .exit) ≡ serve-turn (now (pool .entry)) (now (list .entry)) desks last (chosen .member) (chosen .desk) .list) ⌝ }
 {
     if looked_at(desks, last) == 0 {
@@ -47,7 +40,6 @@ pub fn serve_chosen(
             let answer = pool::serve(pool, list, request);
             let outcome = answer.outcome;
             let events = answer.events;
-            words::carry_all(pool, list, events);
             Turn {
                 turned: Turned::Served(outcome),
                 member: member,
@@ -56,4 +48,21 @@ pub fn serve_chosen(
             }
         }
     }
+}
+
+// The same, and the events are carried out.
+pub fn serve_chosen(
+    pool: &mut [u64],
+    list: &mut [u64],
+    desks: usize,
+    last: u64,
+    chosen: Chosen,
+) -> Turn
+    ensures { λ r. ⌜ (r ≡ serve-turn (now (pool .entry)) (now (list .entry)) desks last (chosen .member) (chosen .desk) .answer)
+        × (now (pool .exit) ≡ serve-turn (now (pool .entry)) (now (list .entry)) desks last (chosen .member) (chosen .desk) .pool)
+        × (now (list .exit) ≡ serve-turn (now (pool .entry)) (now (list .entry)) desks last (chosen .member) (chosen .desk) .list) ⌝ }
+{
+    let turn = plan_chosen(pool, list, desks, last, chosen);
+    words::carry_all(pool, list, turn.events);
+    turn
 }

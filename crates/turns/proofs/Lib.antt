@@ -1,3 +1,4 @@
 pub mod Records
+pub mod TwoSteps
 pub mod Tight
 pub mod Slips

@@ -146,16 +146,14 @@ module _ (m l : List ℕ) (rs : List (List ℕ)) (last : ℕ) where
       turns.untested (length rs) (λ j. with-record rs j fresh) j
       (subst (λ (n : ℕ). turns.Seat n j) (length-map rs desk-of) (turns.seat m l ds last))
 
-  pub leaves : (c : Chosen) {r : Turn} {m′ l′ : List ℕ} {rs′ : List (List ℕ)} → c ≡ chosen ds last
-      → let t = serve-turn m l (length rs) last (c .member) (c .desk) in (r ≡ t .answer) × (m′ ≡ t .pool) × (l′ ≡ t .list)
-      → rs′ ≡ emptied rs (r .member)
-      → (r ≡ turn m l ds last .answer) × (m′ ≡ turn m l ds last .pool) × (l′ ≡ turn m l ds last .list) × (rs′ ≡ turn-records m l rs last)
-  leaves c {r} {m′} {l′} e s k =
+  pub leaves : (c : Chosen) {r : Turn} {l′ : List ℕ} {rs′ : List (List ℕ)} → c ≡ chosen ds last
+      → let t = serve-turn m l (length rs) last (c .member) (c .desk) in (r ≡ t .answer) × (l′ ≡ t .list) → rs′ ≡ emptied rs (r .member)
+      → (r ≡ turn m l ds last .answer) × (l′ ≡ turn m l ds last .list) × (rs′ ≡ turn-records m l rs last)
+  leaves c {r} {l′} e s k =
       let s′ : (r ≡ serve-turn m l (length ds) last (c .member) (c .desk) .answer)
-      × (m′ ≡ serve-turn m l (length ds) last (c .member) (c .desk) .pool)
       × (l′ ≡ serve-turn m l (length ds) last (c .member) (c .desk) .list) = rw (length-map rs desk-of) s in
       let a = turns.leaves m l ds last c e s′ refl in
-      (a .0, a .1, a .2, k ∙ (ap (λ (r : Turn). emptied rs (r .member)) (a .0) ∙ empties-served))
+      (a .0, a .1, k ∙ (ap (λ (r : Turn). emptied rs (r .member)) (a .0) ∙ empties-served))
 
   -- the records after a turn are read as the desks after it
   pub turned : desks-of (turn-records m l rs last) ≡ turn-desks m l ds last

@@ -11,6 +11,8 @@ use Rattle.turns.proofs.desks.ombykape_submit_fetch.Kinds as submit-fet
 use Rattle.turns.proofs.desks.ombykape_submit_fetch.Reads as submit-fetch-reads
 use Rattle.turns.proofs.desks.ombykape_submit_delete.Kinds as submit-delete
 use Rattle.turns.proofs.desks.ombykape_submit_delete.Reads as submit-delete-reads
+use Rattle.turns.proofs.desks.ombykape_plan_turn.Kinds as plan-turn
+use Rattle.turns.proofs.desks.ombykape_plan_turn.Reads as plan-turn-reads
 use Rattle.turns.proofs.desks.ombykape_turn.Kinds as turn
 use Rattle.turns.proofs.desks.ombykape_turn.Reads as turn-reads
 
@@ -30,4 +32,12 @@ pub turn-tight : Tight 3 turn.ps turn.r {B = (List ℕ × List ℕ) × List (Lis
 turn-tight = record {
   free = λ κs a. tt;
   one = λ κs a r s x y h k. (h .0 ∙ sym (k .0), both-same (both-same (h .1 ∙ sym (k .1)) (h .2 ∙ sym (k .2))) (h .3 ∙ sym (k .3)));
+}
+
+-- the pool is lent only to read
+pub plan-turn-tight : Tight 3 plan-turn.ps plan-turn.r {B = List ℕ × List (List ℕ)} plan-turn-reads.Asked plan-turn-reads.Learnt
+    (λ κs x. (now (x .1 .0), now (x .1 .1 .0)))
+plan-turn-tight = record {
+  free = λ κs a. tt;
+  one = λ κs a r s x y h k. (h .0 ∙ sym (k .0), both-same (h .1 ∙ sym (k .1)) (h .2 ∙ sym (k .2)));
 }

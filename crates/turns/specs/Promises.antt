@@ -3,6 +3,7 @@
 use Prim.Native.Nat.{ℕ}
 use mathlib.Core.Path.{_≡_}
 use mathlib.Core.List.{List}
+use Rattle.words.specs.Carry.{CarryAllPromise}
 use Rattle.change.specs.declared.Request.{Request}
 use Rattle.desk.specs.Turn.{submit-answer, turn}
 use Rattle.exports.specs.declared.reply.Reply.{Reply}
@@ -19,3 +20,17 @@ abbrev pub TurnPromise : List ℕ → List ℕ → List (List ℕ) → ℕ → T
 TurnPromise m l rs last r m′ l′ rs′ =
     (r ≡ turn-reply (turn m l (d.desks-of rs) last .answer)) × (m′ ≡ turn m l (d.desks-of rs) last .pool)
     × (l′ ≡ turn m l (d.desks-of rs) last .list) × (rs′ ≡ d.turn-records m l rs last)
+
+-- a turn whose events are left to the caller: the pool is lent only to read
+abbrev pub PlanTurnPromise : List ℕ → List ℕ → List (List ℕ) → ℕ → TurnReply → List ℕ → List (List ℕ) → Type 0
+PlanTurnPromise m l rs last r l′ rs′ =
+    (r ≡ turn-reply (turn m l (d.desks-of rs) last .answer)) × (l′ ≡ turn m l (d.desks-of rs) last .list)
+    × (rs′ ≡ d.turn-records m l rs last)
+
+-- a turn is a planned turn, and then as many of its events as the reply counts carried out: each outcome of the two is one of turn, and
+-- none is left out
+abbrev pub TwoSteps : Type 0
+TwoSteps =
+    (m l : List ℕ) (rs : List (List ℕ)) (last : ℕ) (r : TurnReply) (m′ l′ : List ℕ) (rs′ : List (List ℕ))
+    → (PlanTurnPromise m l rs last r l′ rs′ × CarryAllPromise m l′ (r .events) m′ → TurnPromise m l rs last r m′ l′ rs′)
+    × (TurnPromise m l rs last r m′ l′ rs′ → PlanTurnPromise m l rs last r l′ rs′ × CarryAllPromise m l′ (r .events) m′)

@@ -8,19 +8,20 @@ use crate::replies::turn_reply;
 use desk::Chosen;
 use desk::Desk;
 use desk::Submitted;
+use desk::Turn;
 use desk::looked_at;
 use desk::looked_member;
 use desk::note;
+use desk::plan_chosen;
 use desk::seat;
-use desk::serve_chosen;
 use exports::reply::Reply;
 use words::Refusal;
 ghost use mathlib.Core.Path.{_≡_};
 ghost use Rattle.change.specs.declared.Request.the-variants.{Put, Fetch, Delete};
 ghost use Rattle.desk.specs.inner.Parts.{chosen};
-ghost use Rattle.desk.specs.Turn.{submit-answer};
+ghost use Rattle.desk.specs.Turn.{submit-answer, turn};
 ghost use Rattle.turns.specs.Desks as d;
-ghost use Rattle.turns.specs.Promises.{SubmitPromise, TurnPromise};
+ghost use Rattle.turns.specs.Promises.{SubmitPromise, PlanTurnPromise, TurnPromise};
 
 // A request is laid on a member's desk, where that is empty.
 fn submit(desks: &mut [DeskRecord], member: u64, request: DeskRecord) -> Submitted
@@ -98,6 +99,32 @@ fn empty_desk(desks: &mut [DeskRecord], member: u64)
     }
 }
 
+// A turn whose events are left to be carried out.
+fn plan(pool: &[u64], list: &mut [u64], desks: &mut [DeskRecord], last: u64) -> Turn
+    ensures { λ r. ⌜ (r ≡ turn (now (pool .entry)) (now (list .entry)) (d.desks-of (now (desks .entry))) last .answer)
+        × (now (list .exit) ≡ turn (now (pool .entry)) (now (list .entry)) (d.desks-of (now (desks .entry))) last .list)
+        × (now (desks .exit) ≡ d.turn-records (now (pool .entry)) (now (list .entry)) (now (desks .entry)) last) ⌝ }
+{
+    let n = desks.len();
+    let c = choose(desks, last);
+    let t = plan_chosen(pool, list, n, last, c);
+    empty_desk(desks, t.member);
+    t
+}
+
+#[no_mangle]
+pub extern "C" fn ombykape_plan_turn(
+    pool: &[u64],
+    list: &mut [u64],
+    desks: &mut [DeskRecord],
+    last: u64,
+) -> TurnReply
+    ensures { λ r. ⌜ PlanTurnPromise (now (pool .entry)) (now (list .entry)) (now (desks .entry)) last r (now (list .exit))
+        (now (desks .exit)) ⌝ }
+{
+    turn_reply(plan(pool, list, desks, last))
+}
+
 #[no_mangle]
 pub extern "C" fn ombykape_turn(
     pool: &mut [u64],
@@ -108,9 +135,7 @@ pub extern "C" fn ombykape_turn(
     ensures { λ r. ⌜ TurnPromise (now (pool .entry)) (now (list .entry)) (now (desks .entry)) last r
         (now (pool .exit)) (now (list .exit)) (now (desks .exit)) ⌝ }
 {
-    let n = desks.len();
-    let c = choose(desks, last);
-    let t = serve_chosen(pool, list, n, last, c);
-    empty_desk(desks, t.member);
+    let t = plan(pool, list, desks, last);
+    words::carry_all(pool, list, t.events);
     turn_reply(t)
 }

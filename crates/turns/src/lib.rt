@@ -4,6 +4,7 @@ mod desks;
 mod record;
 mod replies;
 
+pub use desks::ombykape_plan_turn;
 pub use desks::ombykape_submit_delete;
 pub use desks::ombykape_submit_fetch;
 pub use desks::ombykape_submit_put;

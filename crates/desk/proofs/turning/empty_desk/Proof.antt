@@ -1,4 +1,5 @@
--- `desk::turning::empty_desk` meets its contract: a walk of its MIR, by hand. Of `seat` it knows its contract alone. Where there is such a
+-- `desk::turning::empty_desk` meets its contract: a walk of its MIR, by hand. Of `seat` it knows its contract alone. Where there is such
+-- a
 -- desk, the borrow is opened, desk i is stored to whole, and the borrow is closed at the list with a fresh desk at i.
 use mathlib.Core.Path.{_≡_, refl, sym, ap, subst}
 use Prim.Native.Nat.{ℕ, _<_, _^_}
@@ -7,13 +8,15 @@ use lib.Dec.{ltb→lt, nltb→le}
 use lib.ListN.{length, set, length-set}
 use contract.Running.{tablesOf}
 use denote.Enum.Laws as EL
-use Rattle.desk.proofs.Kit.{URA, fullShare, Ty, tyUnit, named, mut, w64, tyInt, tyBool, tyPtr, tyRef, Val, vunit, vint, vptr, SProp}
+use Rattle.desk.proofs.Kit.{URA, fullShare, Ty, tyUnit, named, mut, w64, tyInt, tyBool, tyPtr, tyRef, Val, vunit, vint, vptr}
+use Rattle.desk.proofs.Kit.{SProp}
 use Rattle.desk.proofs.Kit.{ent, emp, via, fst∗, id⊢, Lft, GName, Share, ftrue, fsep, fat, flft, fobs, fbor, Memory, Routine, Heap}
 use Rattle.desk.proofs.Kit.{Env, Calls, Loops, WpFn, Tables, Atoms, Fun, fact, givenOf, tables, Given, feqI, Item, Sq, runs}
 use Rattle.desk.proofs.Kit.{params′, ‵, raw, use0, _⊛_, ⋆, some, later, atRet, _$_, _∵_, !, qed, by, move, keep, drop, use1, split}
 use Rattle.desk.proofs.Kit.{join, pick, rewrite, fsplit, fjoin, suffices, frame, await, done, whole, sub, look-in, agg}
 use Rattle.desk.proofs.Kit.{assigns-last, unit-lit, look, store-raw, init, forget, stop, hop, fld, from, load, lit, of-opd, bin}
-use Rattle.desk.proofs.Kit.{and-then, no-more, assigns, land, first, branches, skips, exec, returns, enter, alloc1, alloc0, params1}
+use Rattle.desk.proofs.Kit.{and-then, no-more, assigns, land, first, branches, skips, exec, returns, enter, alloc1, alloc0}
+use Rattle.desk.proofs.Kit.{params1}
 use Rattle.desk.proofs.Kit.{pass1, pass0, free1, free0, FmC, fmOf, WpFn-mono, owns, pureI, Is, shows, pointee, Held, uint-vals}
 use Rattle.desk.proofs.Kit.{uint-tells, uint-lawful, usize, u64, RefT, sliceTy, sliceVal, MutSlice, Room, heres, codedHoleys}
 use Rattle.desk.proofs.Kit.{at-slice, slice-vals, mut-slice-tells, place-is, elem-out, elem-put, opens-slice, closes-slice, plain}
@@ -103,13 +106,15 @@ module _ {M : Type 1} (𝓤 : URA M) (H : Heap 𝓤) (A : Atoms 𝓤) (mem : Mem
             pass1 ! (init ! 12 refl (tt, record { fits = gm })) $ pass0 ! $
             -- [_k at 2 (8 - k), with what frees it after it; obs 18; the borrow 19; the token 20; what member owns 21]
             assigns ! (of-opd ! (load ! (from ! (fld ! refl (stop !))) (look-in ! 14 (sub ! 1 refl (whole !))))) (from ! (stop !))
-            (init ! 10 refl (tt, record { fits = gn .0 })) $ use0 W (raw (Seat 𝓤 H A mem run .pre to-there)) (goes-seat 𝓤 H A mem run W n m
+            (init ! 10 refl (tt, record { fits = gn .0 })) $
+            use0 W (raw (Seat 𝓤 H A mem run .pre to-there)) (goes-seat 𝓤 H A mem run W n m
             (gn .0) gm) $ calls-at ! fm (Seat 𝓤 H A mem run) known-seat to-there (and-then ! (load ! (from ! (stop !)) (look ! 11 refl))
             (and-then ! (load ! (from ! (stop !)) (look ! 13 refl)) (no-more !))) (λ u. use1 W (later
             (some (λ (r : ℕ). (‵ ftrue ⊛ ‵ (usize .own r (u ∷ []))) ⊛ raw (ensured 𝓤 H A seat.ended (seat.clauses 𝓤 H A mem run) tt
             (n, (m, tt)) tt r)))) (id⊢ 𝓤 _) $ await ! tt $ pick ! (λ i. split ! $ move ! (1 ∷ []) $
             use1 W (raw (fact 𝓤 (i ≡ place n m))) (seat-of 𝓤 H A mem run n m i) $ heard ! (i ≡ place n m) (λ e. split ! $ drop ! $
-            peeks ! usize (Is usize) (shows 𝓤 H A usize) i (u ∷ []) (λ is. land ! (from ! (stop !)) (init ! 9 refl (uint-lawful 𝓤 H A W w64
+            peeks ! usize (Is usize) (shows 𝓤 H A usize) i (u ∷ []) (λ is. land ! (from ! (stop !)) (init ! 9 refl (uint-lawful 𝓤 H A W
+            w64
             .typed i _ is .0)) $ rewrite ! 9 (λ (v : Val). ‵ (fat fullShare (tyInt w64) l₄ 0 v)) (ap only (is .0)) refl $ drop ! $
             assigns ! (bin ! (load ! (from ! (stop !)) (look ! 8 refl)) (load ! (from ! (stop !)) (look ! 10 refl)) tt) (from ! (stop !))
             (init ! 6 refl (tt, tt)) $ first ! $ branches ! (load ! (from ! (stop !)) (look ! 6 refl))
@@ -118,7 +123,8 @@ module _ {M : Type 1} (𝓤 : URA M) (H : Heap 𝓤) (A : Atoms 𝓤) (mem : Mem
             let fits = in-room i n l (gn .1) in
             assigns ! (agg ! (and-then ! (lit ! tt) (no-more !))) (from ! (stop !)) (init ! 4 refl typed) $
             assigns ! (bin ! (load ! (from ! (stop !)) (look ! 8 refl)) (lit ! tt) (record { fits = fits })) (from ! (stop !)) (init ! 2
-            refl (tt, record { fits = fits })) $ assigns ! (bin ! (load ! (from ! (fld ! refl (stop !))) (look-in ! 14 (sub ! 0 refl (whole
+            refl (tt, record { fits = fits })) $
+            assigns ! (bin ! (load ! (from ! (fld ! refl (stop !))) (look-in ! 14 (sub ! 0 refl (whole
             !)))) (load ! (from ! (stop !)) (look ! 2 refl)) tt) (from ! (stop !)) (init ! 0 refl (tt, tt)) $
             rewrite ! 0 (λ (p : ℕ). ‵ (fat fullShare tyPtr l₈ 0 (vptr b p))) (sym (place-is 32 o i)) refl $ move ! (18 ∷ 19 ∷ 20 ∷ []) $
             opens-slice ! tt D.the-row ys b o $ elem-out ! D.the-row (Is D.the-row) (shows 𝓤 H A D.the-row) (EL.vals D.the-type

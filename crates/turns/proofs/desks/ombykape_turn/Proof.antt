@@ -1,19 +1,16 @@
--- `turns::desks::ombykape_turn` meets its contract: the chosen desk is served and its record emptied.
+-- `turns::desks::ombykape_turn` meets its contract: the turn is planned, and its events are carried out.
 use mathlib.Core.Path.{_∙_, ap}
 use borrow.Author.Needs.{needs}
+use Rattle.desk.proofs.Served.{carries}
 use Rattle.turns.specs.Replies.{turn-reply}
-use Rattle.turns.proofs.Records.{leaves}
 use Rattle.turns.proofs.desks.ombykape_turn.Statement.{statement}
 use Rattle.turns.proofs.desks.ombykape_turn.Tie as tie
 
-choose-requires : tie.Need-choose-requires
-choose-requires c κs = search needs
+plan-requires : tie.Need-plan-requires
+plan-requires c κs = search needs
 
-serve-chosen-requires : tie.Need-serve-chosen-requires
-serve-chosen-requires c κs = search needs
-
-empty-desk-requires : tie.Need-empty-desk-requires
-empty-desk-requires c κs = search needs
+carry-all-requires : tie.Need-carry-all-requires
+carry-all-requires c κs = search needs
 
 turn-reply-requires : tie.Need-turn-reply-requires
 turn-reply-requires c κs = search needs
@@ -29,21 +26,20 @@ same-length-3 c = search needs
 
 returns : tie.Need-returns
 returns c =
-    let e = c .before .before in
-    let s = e .before .before .before .before .before .before in
-    let h = s .before .before .before in
-    let a = h .before .before .before .before .args in
-    let all = leaves (a .pool .now) (a .list .now) (a .desks .now) (a .last) (h .choose .result) (h .choose .ensures)
-    (s .serve-chosen .ensures) (e .empty-desk .ensures) in
-    (c .turn-reply .ensures ∙ ap turn-reply (all .0), all .1, all .2, all .3)
+    let carried = c .before .before .before in
+    let planned = carried .before .before .before .before .before .before .plan .ensures in (
+      c .turn-reply .ensures ∙ ap turn-reply (planned .0),
+      carries _ _ _ _ _ _ (planned .0) (planned .1) (carried .carry-all .ensures),
+      planned .1,
+      planned .2,
+    )
 
 pub ombykape-turn-spec : {M : Type 1} → statement M
 ombykape-turn-spec =
     tie.close
     (tie.spec
-    choose-requires
-    serve-chosen-requires
-    empty-desk-requires
+    plan-requires
+    carry-all-requires
     turn-reply-requires
     same-length
     same-length-2

@@ -1,41 +1,37 @@
--- The walk of `turn`, with no branch. The desks are lent again to `choose` and come back as they were; the pool and the list go to
--- `serve_chosen` for good, and the desks to `empty_desk`. All that it knows of the three is that each meets its contract.
-use mathlib.Core.Path.{_≡_, refl, ap, subst}
+-- The walk of `turn`, with no branch. The pool is lent to read, and the list lent again, to `plan_turn`, and come back; the desks go to
+-- it for
+-- good. Then the list is lent to read to `carry_all`, and comes back; the pool goes to it for good. All that it knows of the two is that
+-- each
+-- meets its contract.
+use mathlib.Core.Path.{_≡_, refl, ap, subst, sym}
 use Prim.Native.Nat.{ℕ, _<_, _^_}
 use mathlib.Core.List.{List, [], _∷_}
 use lib.ListN.{length}
 use denote.Struct.Laws as LL
-use Rattle.desk.proofs.Kit.{URA, fullShare, Ty, named, erased, mut, w64, tyInt, tyUnit, tyRef, Val, vint, SProp, ent, sep, id⊢, Lft}
-use Rattle.desk.proofs.Kit.{GName, Share, Fml, ftrue, fsep, fat, flft, Memory, Routine, Heap, Env, Calls, Loops, WpFn, Atoms, sem}
-use Rattle.desk.proofs.Kit.{Lfts, Fun, fact, Given, Item, Sq, atRet, runs, params′, ‵, raw, _⊛_, ⋆, some, later, _$_, _∵_, !, qed}
-use Rattle.desk.proofs.Kit.{by, move, keep, drop, use1, use2, use3, split, join, pick, rewrite, fsplit, fjoin, feqL, suffices}
-use Rattle.desk.proofs.Kit.{frame, await, done, lft-new, lft-end, whole, sub, look-in, agg, look, init, forget, stop, hop, fld}
+use Rattle.desk.proofs.Kit.{URA, fullShare, Ty, named, erased, imm, mut, w64, tyInt, tyUnit, tyRef, Val, vint, SProp, ent, sep}
+use Rattle.desk.proofs.Kit.{id⊢, Lft, GName, Share, Fml, ftrue, fsep, fat, flft, Memory, Routine, Heap, Env, Calls, Loops, WpFn}
+use Rattle.desk.proofs.Kit.{Atoms, sem, Lfts, Fun, fact, Given, Item, Sq, atRet, runs, params′, ‵, raw, _⊛_, ⋆, some, later, _$_}
+use Rattle.desk.proofs.Kit.{_∵_, !, qed, by, move, keep, drop, use1, use2, use3, split, join, pick, rewrite, fsplit, fjoin, feqL}
+use Rattle.desk.proofs.Kit.{suffices, frame, await, done, lft-new, lft-end, whole, sub, look-in, agg, look, init, stop, hop, fld}
 use Rattle.desk.proofs.Kit.{from, load, of-opd, and-then, no-more, addr, assigns, land, returns, enter, alloc1, alloc0, params1}
-use Rattle.desk.proofs.Kit.{pass1, pass0, free1, free0, FmC, pointee, owns, Is, shows, Nothing, uint-makes, nothing-lawful, u64}
-use Rattle.desk.proofs.Kit.{usize, RefT, sliceTy, sliceVal, MutSlice, Room, finally, plain, owned, nothing, only, heard, peeks}
-use Rattle.desk.proofs.Kit.{Contract, Triple, calls-at, ensured, lasts, Vals, onEntry, tripleOf, says, Stays, gave-slice, stay-none}
-use Rattle.desk.proofs.Kit.{walkOf, ends-at, yes}
+use Rattle.desk.proofs.Kit.{pass1, pass0, FmC, pointee, owns, Is, shows, Nothing, uint-makes, nothing-lawful, u64, RefT, sliceTy}
+use Rattle.desk.proofs.Kit.{sliceVal, MutSlice, ShrSlice, Room, finally, plain, owned, nothing, only, heard, peeks, Contract}
+use Rattle.desk.proofs.Kit.{Triple, calls-at, ensured, lasts, Vals, onEntry, tripleOf, says, Stays, gave-slice, stay-slice}
+use Rattle.desk.proofs.Kit.{stay-none, walkOf, ends-at, yes}
+use Rattle.words.specs.Carry.{CarryAllPromise}
+use Rattle.words.proofs.carry_all as carry-all
+use Rattle.words.proofs.carry_all.Symbol.{name as #carry-all}
 use Rattle.desk.specs.declared.record.Desk.{Desk}
-use Rattle.desk.specs.declared.choosing.Chosen.{Chosen}
 use Rattle.desk.specs.declared.answer.Turn.{Turn}
-use Rattle.desk.specs.Turn as t
-use Rattle.desk.specs.Turn.{serve-turn}
-use Rattle.desk.specs.Answers.{turn-says}
-use Rattle.desk.specs.inner.Parts.{chosen, emptied}
-use Rattle.desk.proofs.Frames.{all-unset}
-use Rattle.desk.proofs.Again.{LentAgain, lends-again, comes-back}
-use Rattle.desk.proofs.Turns.{leaves}
+use Rattle.desk.specs.Promises.{PlanTurnPromise, TurnPromise}
+use Rattle.desk.proofs.Frames.{all-unset, frees-all}
+use Rattle.desk.proofs.Again.{LentAgain, LentToRead, lends-again, comes-back, lends-to-read, was-read}
+use Rattle.desk.proofs.TwoSteps.{joined}
 use Rattle.desk.proofs.record.Desk as D
-use Rattle.desk.proofs.choosing.Chosen as P
-use Rattle.desk.proofs.choosing.Chosen.Laws as P′
 use Rattle.desk.proofs.answer.Turn as S
 use Rattle.desk.proofs.answer.Turn.Laws as S′
-use Rattle.desk.proofs.choosing.choose as choose
-use Rattle.desk.proofs.choosing.choose.Symbol.{name as #choose}
-use Rattle.desk.proofs.serving.serve_chosen as serve-chosen
-use Rattle.desk.proofs.serving.serve_chosen.Symbol.{name as #serve-chosen}
-use Rattle.desk.proofs.turning.empty_desk as empty-desk
-use Rattle.desk.proofs.turning.empty_desk.Symbol.{name as #empty-desk}
+use Rattle.desk.proofs.turning.plan_turn as plan-turn
+use Rattle.desk.proofs.turning.plan_turn.Symbol.{name as #plan-turn}
 use Rattle.desk.proofs.turning.turn as turn
 use Rattle.desk.proofs.turning.turn.Code as code
 use Rattle.desk.proofs.turning.turn.Code.Mir as mir′
@@ -43,58 +39,49 @@ use Rattle.desk.proofs.turning.turn.Code.Mir as mir′
 abbrev pub stayed : Stays (turn.ended .signature .params) (turn.ended .kept)
 stayed =
     let pool-gone = gave-slice (0 ∷ []) tt (plain (λ _. u64)) in
-    let list-gone = gave-slice (1 ∷ []) tt (plain (λ _. u64)) in
+    let list-back = stay-slice (1 ∷ []) tt (plain (λ _. u64)) in
     let desks-gone = gave-slice (2 ∷ []) tt (plain (λ _. D.the-row)) in
-    (pool-gone, (list-gone, (desks-gone, (stay-none (λ _. u64) yes, tt))))
-
-abbrev cv : Chosen → Val
-cv p = LL.val P.the-type P′.the-laws p
+    (pool-gone, (list-back, (desks-gone, (stay-none (λ _. u64) yes, tt))))
 
 abbrev sv : Turn → Val
 sv r = LL.val S.the-type S′.the-laws r
 
 module _ {M : Type 1} (𝓤 : URA M) (H : Heap 𝓤) (A : Atoms 𝓤) (mem : Memory → SProp 𝓤) (run : Routine → Fun 𝓤) where
-  abbrev pub Choose : Contract 𝓤
-  Choose = tripleOf 𝓤 H A choose.signature (choose.spec 𝓤 H A mem run)
+  abbrev pub Plan : Contract 𝓤
+  Plan = tripleOf 𝓤 H A plan-turn.signature (plan-turn.spec 𝓤 H A mem run)
 
-  abbrev pub Serve : Contract 𝓤
-  Serve = tripleOf 𝓤 H A serve-chosen.signature (serve-chosen.spec 𝓤 H A mem run)
-
-  abbrev pub Empties : Contract 𝓤
-  Empties = tripleOf 𝓤 H A empty-desk.signature (empty-desk.spec 𝓤 H A mem run)
+  abbrev pub Carry : Contract 𝓤
+  Carry = tripleOf 𝓤 H A carry-all.signature (carry-all.spec 𝓤 H A mem run)
 
   -- three borrows: where each lies, its name, its list, its lifetime and share
   module _ (W : Given 𝓤 H A)
       (κ₀ κ₁ κ₂ : Lft) (q₀ q₁ q₂ : Share) (b₀ o₀ b₁ o₁ b₂ o₂ : ℕ) (γ₀ γ₁ γ₂ : GName) (ps ls : List ℕ) (ds : List Desk) (m : ℕ) where
-    abbrev x₀ : RefT (List ℕ)
-    x₀ = record { ptr = (b₀, o₀); name = γ₀; now = ps }
+    abbrev x₀ : GName → RefT (List ℕ)
+    x₀ δ = record { ptr = (b₀, o₀); name = δ; now = ps }
 
-    abbrev x₁ : RefT (List ℕ)
-    x₁ = record { ptr = (b₁, o₁); name = γ₁; now = ls }
+    abbrev x₁ : GName → List ℕ → RefT (List ℕ)
+    x₁ δ l = record { ptr = (b₁, o₁); name = δ; now = l }
 
-    abbrev x₂ : GName → List Desk → RefT (List Desk)
-    x₂ δ l = record { ptr = (b₂, o₂); name = δ; now = l }
+    abbrev x₂ : RefT (List Desk)
+    x₂ = record { ptr = (b₂, o₂); name = γ₂; now = ds }
 
     abbrev s₀ : Val
     s₀ = sliceVal (b₀, o₀) (length ps)
 
-    abbrev s₁ : Val
-    s₁ = sliceVal (b₁, o₁) (length ls)
-
-    abbrev n : ℕ
-    n = length ds
+    abbrev s₁ : ℕ → Val
+    s₁ k = sliceVal (b₁, o₁) k
 
     abbrev s₂ : Val
-    s₂ = sliceVal (b₂, o₂) n
+    s₂ = sliceVal (b₂, o₂) (length ds)
 
     abbrev κs : Lfts 3
     κs = (κ₀, (κ₁, (κ₂, tt)))
 
     abbrev a : RefT (List ℕ) × (RefT (List ℕ) × (RefT (List Desk) × (ℕ × Unit {0})))
-    a = (x₀, (x₁, (x₂ γ₂ ds, (m, tt))))
+    a = (x₀ γ₀, (x₁ γ₁ ls, (x₂, (m, tt))))
 
     abbrev at : Vals turn.signature κs
-    at = (s₀ ∷ [], (s₁ ∷ [], (s₂ ∷ [], (vint w64 m ∷ [], tt))))
+    at = (s₀ ∷ [], (s₁ (length ls) ∷ [], (s₂ ∷ [], (vint w64 m ∷ [], tt))))
 
     abbrev bound : walkOf 𝓤 H A turn.ended stayed (turn.clauses 𝓤 H A mem run) .Ghost
     bound = ((κs, (q₀, (q₁, (q₂, tt))), tt, a, at), tt)
@@ -105,195 +92,197 @@ module _ {M : Type 1} (𝓤 : URA M) (H : Heap 𝓤) (A : Atoms 𝓤) (mem : Mem
     abbrev desk : Ty
     desk = pointee (D.the-row .written)
 
-    abbrev served : Chosen → t.Left
-    served p = t.serve-turn ps ls n m (p .member) (p .desk)
+    -- the pool is lent to plan_turn for ν under the name δ, the list for ν′ under δ′
+    module _ (ν ν′ : ℕ) (δ δ′ : GName) where
+      abbrev of-plan : RefT (List ℕ) × (RefT (List ℕ) × (RefT (List Desk) × (ℕ × Unit {0})))
+      of-plan = (x₀ δ, (x₁ δ′ ls, (x₂, (m, tt))))
 
-    abbrev to-choose : ℕ → GName → Choose .Ghost
-    to-choose ν δ = (((ν ∷ [], tt), (fullShare, tt), tt, (x₂ δ ds, (m, tt)), (s₂ ∷ [], (vint w64 m ∷ [], tt))), tt)
+      abbrev for-plan : Lfts 3
+      for-plan = (ν ∷ [], (ν′ ∷ [], (κ₂, tt)))
 
-    goes-choose : (ν : ℕ) (δ : GName) → m < 2 ^ 64
-        → ent 𝓤 (sep 𝓤 (A .lft (ν ∷ []) fullShare) (sem 𝓤 H A (MutSlice (named 0) (ν ∷ []) D.the-row .own (x₂ δ ds) (s₂ ∷ []))))
-        (Choose .pre (to-choose ν δ))
-    goes-choose ν δ gm =
-        qed W (‵ (flft (ν ∷ []) fullShare) ∷ ‵ (MutSlice (named 0) (ν ∷ []) D.the-row .own (x₂ δ ds) (s₂ ∷ [])) ∷ []) ∵
-        nothing ! $ owned ! u64 (Is u64) (uint-makes 𝓤 H A W w64) m _ (refl, gm) $ fjoin ! $ move ! (2 ∷ 0 ∷ []) $ fjoin ! $ nothing ! $
-        move ! (2 ∷ 0 ∷ []) $ join ! $ join ! $ frame ! $ done !
+      abbrev to-plan : Plan .Ghost
+      to-plan = ((for-plan, (fullShare, (fullShare, (q₂, tt))), tt, of-plan, at), tt)
 
-    abbrev served-at : Chosen → Vals serve-chosen.signature (κ₀, (κ₁, tt))
-    served-at p = (s₀ ∷ [], (s₁ ∷ [], (vint w64 n ∷ [], (vint w64 m ∷ [], (cv p ∷ [], tt)))))
+      abbrev PlanTok : Fml
+      PlanTok = fsep (flft (ν ∷ []) fullShare) (fsep (flft (ν′ ∷ []) fullShare) (flft κ₂ q₂))
 
-    abbrev to-serve : Chosen → Serve .Ghost
-    to-serve p = (((κ₀, (κ₁, tt)), (q₀, (q₁, tt)), tt, (x₀, (x₁, (n, (m, (p, tt))))), served-at p), tt)
+      abbrev PlanLent : Fml
+      PlanLent = fsep (ShrSlice (named 0) (ν ∷ []) u64 .own (x₀ δ) (s₀ ∷ []))
+          (fsep (MutSlice (named 1) (ν′ ∷ []) u64 .own (x₁ δ′ ls) (s₁ (length ls) ∷ [])) (MutSlice (named 2) κ₂ D.the-row .own x₂ (s₂ ∷
+          [])))
 
-    abbrev Tok : Fml
-    Tok = fsep (flft κ₀ q₀) (flft κ₁ q₁)
+      goes-plan : m < 2 ^ 64 → ent 𝓤 (sep 𝓤 (sem 𝓤 H A PlanTok) (sem 𝓤 H A PlanLent)) (Plan .pre to-plan)
+      goes-plan gm =
+          qed W (‵ PlanTok ∷ ‵ PlanLent ∷ []) ∵ fsplit ! $ move ! (1 ∷ []) $ fsplit ! $ move ! (3 ∷ []) $ fsplit ! $ move ! (1 ∷ []) $
+          fsplit ! $ nothing ! $ owned ! u64 (Is u64) (uint-makes 𝓤 H A W w64) m _ (refl, gm) $ fjoin ! $ move ! (2 ∷ 0 ∷ []) $ fjoin ! $
+          move ! (1 ∷ 0 ∷ []) $ fjoin ! $ move ! (1 ∷ 0 ∷ []) $ fjoin ! $ nothing ! $ move ! (3 ∷ 0 ∷ []) $ join ! $
+          move ! (2 ∷ 0 ∷ []) $ join ! $ move ! (2 ∷ 0 ∷ []) $ join ! $ join ! $ frame ! $ done !
 
-    abbrev Both : Fml
-    Both = fsep (MutSlice (named 0) κ₀ u64 .own x₀ (s₀ ∷ [])) (MutSlice (named 1) κ₁ u64 .own x₁ (s₁ ∷ []))
+    -- the list, as it is by now, is lent to carry_all for ν under the name δ
+    module _ (ν : ℕ) (δ : GName) (l : List ℕ) (i : ℕ) where
+      abbrev of-carry : RefT (List ℕ) × (RefT (List ℕ) × (ℕ × Unit {0}))
+      of-carry = (x₀ γ₀, (x₁ δ l, (i, tt)))
 
-    goes-serve : (p : Chosen) → Is P.the-row p (cv p ∷ []) → n < 2 ^ 64 → m < 2 ^ 64
-        → ent 𝓤 (sep 𝓤 (sem 𝓤 H A Tok) (sem 𝓤 H A Both)) (Serve .pre (to-serve p))
-    goes-serve p gp gn gm =
-        qed W (‵ Tok ∷ ‵ Both ∷ []) ∵ fsplit ! $ move ! (2 ∷ []) $ fsplit ! $ nothing ! $
-        owned ! P.the-row (Is P.the-row) (LL.makes P.the-type P′.the-plain 𝓤 H A) p _ gp $ fjoin ! $
-        owned ! u64 (Is u64) (uint-makes 𝓤 H A W w64) m _ (refl, gm) $ fjoin ! $ owned ! usize (Is usize) (uint-makes 𝓤 H A W w64) n _
-        (refl, gn) $ fjoin ! $ move ! (2 ∷ 0 ∷ []) $ fjoin ! $ move ! (1 ∷ 0 ∷ []) $ fjoin ! $ nothing ! $ move ! (3 ∷ 0 ∷ []) $ join ! $
-        move ! (2 ∷ 0 ∷ []) $ join ! $ join ! $ frame ! $ done !
+      abbrev for-carry : Lfts 2
+      for-carry = (κ₀, (ν ∷ [], tt))
 
-    abbrev to-empty : ℕ → Empties .Ghost
-    to-empty i = (((κ₂, tt), (q₂, tt), tt, (x₂ γ₂ ds, (i, tt)), (s₂ ∷ [], (vint w64 i ∷ [], tt))), tt)
+      abbrev to-carry : Carry .Ghost
+      to-carry =
+          ((for-carry, (q₀, (fullShare, tt)), tt, of-carry, (s₀ ∷ [], (s₁ (length ls) ∷ [], (vint w64 i ∷ [], tt)))), tt)
 
-    goes-empty : (i : ℕ) → i < 2 ^ 64
-        → ent 𝓤 (sep 𝓤 (A .lft κ₂ q₂) (sem 𝓤 H A (MutSlice (named 2) κ₂ D.the-row .own (x₂ γ₂ ds) (s₂ ∷ [])))) (Empties .pre (to-empty i))
-    goes-empty i gi =
-        qed W (‵ (flft κ₂ q₂) ∷ ‵ (MutSlice (named 2) κ₂ D.the-row .own (x₂ γ₂ ds) (s₂ ∷ [])) ∷ []) ∵
-        nothing ! $ owned ! u64 (Is u64) (uint-makes 𝓤 H A W w64) i _ (refl, gi) $ fjoin ! $ move ! (2 ∷ 0 ∷ []) $ fjoin ! $ nothing ! $
-        move ! (2 ∷ 0 ∷ []) $ join ! $ join ! $ frame ! $ done !
+      abbrev CarryTok : Fml
+      CarryTok = fsep (flft κ₀ q₀) (flft (ν ∷ []) fullShare)
+
+      abbrev CarryLent : Fml
+      CarryLent = fsep (MutSlice (named 0) κ₀ u64 .own (x₀ γ₀) (s₀ ∷ []))
+          (ShrSlice (named 1) (ν ∷ []) u64 .own (x₁ δ l) (s₁ (length ls) ∷ []))
+
+      goes-carry : i < 2 ^ 64 → ent 𝓤 (sep 𝓤 (sem 𝓤 H A CarryTok) (sem 𝓤 H A CarryLent)) (Carry .pre to-carry)
+      goes-carry gi =
+          qed W (‵ CarryTok ∷ ‵ CarryLent ∷ []) ∵ fsplit ! $ move ! (2 ∷ []) $ fsplit ! $ nothing ! $ owned ! u64 (Is u64)
+          (uint-makes 𝓤 H A W w64) i _ (refl, gi) $ fjoin ! $ move ! (2 ∷ 0 ∷ []) $ fjoin ! $ move ! (1 ∷ 0 ∷ []) $ fjoin ! $ nothing ! $
+          move ! (3 ∷ 0 ∷ []) $ join ! $ move ! (2 ∷ 0 ∷ []) $ join ! $ join ! $ frame ! $ done !
 
     -- what the calls leave
     abbrev Gone : List ℕ → List ℕ → List Desk → List (Item 𝓤)
     Gone z₀ z₁ z₂ =
-        (‵ (flft κ₂ q₂) ⊛ ‵ ftrue) ∷ ‵ (finally D.the-row γ₂ z₂) ∷ (‵ (flft κ₀ q₀) ⊛ ‵ (flft κ₁ q₁) ⊛ ‵ ftrue)
-        ∷ ‵ (finally u64 γ₁ z₁) ∷ ‵ (finally u64 γ₀ z₀) ∷ []
+        ‵ (MutSlice (named 1) κ₁ u64 .own (x₁ γ₁ z₁) (s₁ (length ls) ∷ [])) ∷ ‵ (flft κ₁ q₁) ∷ ‵ (flft κ₀ q₀) ∷ ‵ (finally u64 γ₀ z₀)
+        ∷ (‵ (flft κ₂ q₂) ⊛ ‵ ftrue) ∷ ‵ (finally D.the-row γ₂ z₂) ∷ []
 
     exits : m < 2 ^ 64 → (r : Turn) (z₀ z₁ : List ℕ) (z₂ : List Desk) → Is S.the-row r (sv r ∷ []) → length z₀ ≡ length ps
-        → length z₁ ≡ length ls → length z₂ ≡ n
-        → (r ≡ t.turn ps ls ds m .answer) × (z₀ ≡ t.turn ps ls ds m .pool) × (z₁ ≡ t.turn ps ls ds m .list) ×
-        (z₂ ≡ t.turn-desks ps ls ds m)
+        → length z₁ ≡ length ls → length z₂ ≡ length ds → TurnPromise ps ls ds m r z₀ z₁ z₂
         → ent 𝓤 (⋆ 𝓤 H A (Gone z₀ z₁ z₂)) (Post (sv r))
     exits gm r z₀ z₁ z₂ gr e₀ e₁ e₂ said =
         qed W (Gone z₀ z₁ z₂) ∵
         suffices ! _ (ends-at 𝓤 H A turn.ended stayed (turn.clauses 𝓤 H A mem run) W bound (sv r) r (z₀, (z₁, (z₂, (tt, tt))))
-        (e₀, (e₁, (e₂, (tt, tt))))) $ says ! (ap turn-says (said .0), said .1, said .2, said .3) $ move ! (2 ∷ []) $ split ! $
-        move ! (1 ∷ []) $ split ! $ move ! (1 ∷ []) $ drop ! $
-        move ! (0 ∷ 2 ∷ []) $ join ! $ move ! (1 ∷ 0 ∷ []) $ join ! $ frame ! $ nothing ! $ owned ! u64 (Is u64) (uint-makes 𝓤 H A W w64) m
-        _ (refl, gm) $ fjoin ! $ move ! (1 ∷ 0 ∷ []) $ fjoin ! $ move ! (1 ∷ 0 ∷ []) $ fjoin ! $ move ! (1 ∷ 0 ∷ []) $ fjoin ! $ frame ! $
+        (e₀, (e₁, (e₂, (tt, tt))))) $ says ! said $ move ! (1 ∷ 4 ∷ []) $ join ! $ move ! (2 ∷ 0 ∷ []) $ join ! $ frame ! $ nothing ! $
+        owned ! u64 (Is u64) (uint-makes 𝓤 H A W w64) m _ (refl, gm) $ fjoin ! $ move ! (3 ∷ 0 ∷ []) $ fjoin ! $ move ! (1 ∷ 0 ∷ []) $
+        fjoin ! $ move ! (1 ∷ 0 ∷ []) $ fjoin ! $ frame ! $
         owned ! S.the-row (Is S.the-row) (LL.makes S.the-type S′.the-plain 𝓤 H A) r _ gr $ done !
 
-    module _ (C : Calls 𝓤 H) (Λ : Loops 𝓤 H) (fm : FmC 𝓤 H (W .laws) C) (known-choose : Triple 𝓤 (C #choose) Choose)
-        (known-serve : Triple 𝓤 (C #serve-chosen) Serve) (known-empty : Triple 𝓤 (C #empty-desk) Empties) where
-      module _ (g₀ : Room u64 (length ps)) (g₁ : Room u64 (length ls)) (g₂ : Room D.the-row n) (gm : m < 2 ^ 64)
+    module _ (C : Calls 𝓤 H) (Λ : Loops 𝓤 H) (fm : FmC 𝓤 H (W .laws) C) (known-plan : Triple 𝓤 (C #plan-turn) Plan)
+        (known-carry : Triple 𝓤 (C #carry-all) Carry) where
+      module _ (g₀ : Room u64 (length ps)) (g₁ : Room u64 (length ls)) (g₂ : Room D.the-row (length ds)) (gm : m < 2 ^ 64)
           (l₀ l₁ l₂ l₃ l₄ l₅ l₆ l₇ l₈ l₉ l₁₀ l₁₁ l₁₂ l₁₃ l₁₄ l₁₅ l₁₆ : ℕ) where
         abbrev E : Env 𝓤 H
         E =
             (S′.mir, l₀) ∷ (sliceTy (tyRef (named 0) mut (tyInt w64)), l₁) ∷ (sliceTy (tyRef (named 1) mut (tyInt w64)), l₂)
-            ∷ (sliceTy (tyRef (named 2) mut desk), l₃) ∷ (tyInt w64, l₄) ∷ (tyInt w64, l₅) ∷ (P′.mir, l₆) ∷ (S′.mir, l₇)
-            ∷ (tyRef erased mut desk, l₈) ∷ (sliceTy (tyRef erased mut desk), l₉) ∷ (tyRef erased mut (tyInt w64), l₁₀)
-            ∷ (sliceTy (tyRef erased mut (tyInt w64)), l₁₁) ∷ (tyRef erased mut (tyInt w64), l₁₂)
-            ∷ (sliceTy (tyRef erased mut (tyInt w64)), l₁₃) ∷ (tyUnit, l₁₄) ∷ (tyRef erased mut desk, l₁₅)
-            ∷ (sliceTy (tyRef erased mut desk), l₁₆) ∷ []
+            ∷ (sliceTy (tyRef (named 2) mut desk), l₃) ∷ (tyInt w64, l₄) ∷ (S′.mir, l₅) ∷ (tyRef erased imm (tyInt w64), l₆)
+            ∷ (sliceTy (tyRef erased imm (tyInt w64)), l₇) ∷ (tyRef erased mut (tyInt w64), l₈)
+            ∷ (sliceTy (tyRef erased mut (tyInt w64)), l₉) ∷ (tyRef erased mut desk, l₁₀) ∷ (sliceTy (tyRef erased mut desk), l₁₁)
+            ∷ (tyUnit, l₁₂) ∷ (tyRef erased mut (tyInt w64), l₁₃) ∷ (sliceTy (tyRef erased mut (tyInt w64)), l₁₄)
+            ∷ (tyRef erased imm (tyInt w64), l₁₅) ∷ (sliceTy (tyRef erased imm (tyInt w64)), l₁₆) ∷ []
 
         -- the locals, as they are made
         abbrev Fresh : List (Item 𝓤)
-        Fresh = all-unset E (‵ Both ∷ ‵ (MutSlice (named 2) κ₂ D.the-row .own (x₂ γ₂ ds) (s₂ ∷ [])) ∷ ‵ (flft κ₂ q₂) ∷ ‵ Tok ∷ [])
+        Fresh =
+            all-unset E (‵ (MutSlice (named 0) κ₀ u64 .own (x₀ γ₀) (s₀ ∷ [])) ∷ ‵ (MutSlice (named 1) κ₁ u64 .own (x₁ γ₁ ls)
+            (s₁ (length ls) ∷ [])) ∷ ‵ (MutSlice (named 2) κ₂ D.the-row .own x₂ (s₂ ∷ [])) ∷ ‵ (flft κ₀ q₀) ∷ ‵ (flft κ₁ q₁)
+            ∷ ‵ (flft κ₂ q₂) ∷ [])
 
-        begin : Sq W Fresh (params′ E (s₀ ∷ s₁ ∷ s₂ ∷ vint w64 m ∷ []) (runs C Λ E mir′.t-1 (atRet E Post)))
+        begin : Sq W Fresh (params′ E (s₀ ∷ s₁ (length ls) ∷ s₂ ∷ vint w64 m ∷ []) (runs C Λ E mir′.t-1 (atRet E Post)))
         begin =
-            params1 ! $ pass1 ! (init ! 30 refl (tt, (tt, (record { fits = g₀ .0 }, tt)))) $
-            pass1 ! (init ! 28 refl (tt, (tt, (record { fits = g₁ .0 }, tt)))) $
-            pass1 ! (init ! 26 refl (tt, (tt, (record { fits = g₂ .0 }, tt)))) $ pass1 ! (init ! 24 refl (tt, record { fits = gm })) $
-            pass0 ! $
-            -- [_k at 2 (16 - k), with what frees it; pool and list 34; desks 35; κ₂'s 36; κ₀'s and κ₁'s 37]
-            assigns ! (of-opd ! (load ! (from ! (fld ! refl (stop !))) (look-in ! 26 (sub ! 1 refl (whole !))))) (from ! (stop !))
-            (init ! 22 refl (tt, record { fits = g₂ .0 })) $ assigns ! (addr ! (from ! (fld ! refl (hop ! (look-in ! 26 (sub ! 0 refl
-            (whole !))) (stop !))))) (from ! (stop !)) (init ! 16 refl (tt, tt)) $
-            assigns ! (agg ! (and-then ! (load ! (from ! (stop !)) (look ! 16 refl)) (and-then ! (load ! (from ! (fld ! refl (stop !)))
-            (look-in ! 26 (sub ! 1 refl (whole !)))) (no-more !)))) (from ! (stop !)) (init ! 14 refl
-            (tt, (tt, (record { fits = g₂ .0 }, tt)))) $
-            -- the desks are lent again, for a lifetime ν of the call
-            move ! (36 ∷ 35 ∷ []) $ lft-new ! tt (λ ν. move ! (2 ∷ 1 ∷ []) $
-            use2 W (later (some (λ (δ : GName). ‵ (MutSlice (named 0) (ν ∷ []) D.the-row .own (x₂ δ ds) (s₂ ∷ [])) ⊛ ‵
-            (LentAgain D.the-row κ₂ (ν ∷ []) q₂ γ₂ b₂ o₂ δ ds)))) (lends-again D.the-row κ₂ (ν ∷ []) q₂ γ₂ b₂ o₂ 𝓤 H A W (named 2)
-            (named 0) ds) $ await ! tt $ pick ! (λ δ. split ! $ move ! (2 ∷ 0 ∷ []) $
-            use2 W (raw (Choose .pre (to-choose ν δ))) (goes-choose ν δ gm) $
-            -- [what choose asks; what is kept of the loan; _k at 2 + 2 (16 - k); …]
-            calls-at ! fm Choose known-choose (to-choose ν δ) (and-then ! (load ! (from ! (stop !)) (look ! 16 refl)) (and-then ! (load
-            ! (from ! (stop !)) (look ! 26 refl)) (no-more !))) (λ u.
-            use1 W (later (some (λ (p : Chosen). ((‵ (flft (ν ∷ []) fullShare) ⊛ ‵ ftrue) ⊛ ‵ (P.the-row .own p (u ∷ []))) ⊛ raw
-            (ensured 𝓤 H A choose.ended (choose.clauses 𝓤 H A mem run) (ν ∷ [], tt) (x₂ δ ds, (m, tt)) tt p)))) (id⊢ 𝓤 _) $ await ! tt $
-            pick ! (λ p. split ! $ move ! (1 ∷ []) $
-            use1 W (some (λ (zs : List Desk × (Unit {0} × Unit {0})). ‵ (lasts choose.ended (ν ∷ [], tt) (x₂ δ ds, (m, tt)) zs) ⊛ raw
-            (fact 𝓤 ((p ≡ chosen ds m) × (zs .0 ≡ ds))))) (id⊢ 𝓤 _) $ pick ! (λ zs. split ! $ move ! (1 ∷ []) $
-            heard ! ((p ≡ chosen ds m) × (zs .0 ≡ ds)) (λ e. fsplit ! $ fsplit ! $ move ! (1 ∷ []) $ feqL ! (λ l. move ! (2 ∷ []) $
-            split ! $ move ! (1 ∷ []) $ peeks ! P.the-row (Is P.the-row) (shows 𝓤 H A P.the-row) p (u ∷ []) (λ ip. land ! (from ! (stop !))
-            (init ! 25 refl (LL.lawful P.the-type P′.the-laws 𝓤 H A W .typed p _ ip .0)) $
-            rewrite ! 25 (λ (v : Val). ‵ (fat fullShare P′.mir l₆ 0 v)) (ap only (LL.tells P.the-type P′.the-laws p (u ∷ []) ip)) refl $
-            -- the lifetime is ended, and the desks come back
-            move ! (1 ∷ []) $ split ! $ lft-end ! tt $ move ! (0 ∷ 5 ∷ 3 ∷ []) $
-            use3 W (later (‵ (MutSlice (named 2) κ₂ D.the-row .own (x₂ γ₂ (zs .0)) (s₂ ∷ [])) ⊛ ‵ (flft κ₂ q₂))) (comes-back D.the-row κ₂
-            (ν ∷ []) q₂ γ₂ b₂ o₂ 𝓤 H A W (named 2) (named 0) ds δ (zs .0) g₂ l) $ await ! tt $ split ! $
-            rewrite ! 0 (λ (y : List Desk). ‵ (MutSlice (named 2) κ₂ D.the-row .own (x₂ γ₂ y) (s₂ ∷ []))) (e .1) refl $
-            move ! (2 ∷ 3 ∷ 4 ∷ []) $ drop ! $ drop ! $ drop ! $
-            -- [desks; κ₂'s; _k at 2 + 2 (16 - k); …; pool and list 36; κ₀'s and κ₁'s 37]
-            assigns ! (addr ! (from ! (fld ! refl (hop ! (look-in ! 32 (sub ! 0 refl (whole !))) (stop !))))) (from ! (stop !)) (init ! 14
-            refl (tt, tt)) $ assigns ! (agg ! (and-then ! (load ! (from ! (stop !)) (look ! 14 refl)) (and-then ! (load ! (from ! (fld
-            ! refl (stop !))) (look-in ! 32 (sub ! 1 refl (whole !)))) (no-more !)))) (from ! (stop !)) (init ! 12 refl
-            (tt, (tt, (record { fits = g₀ .0 }, tt)))) $ assigns ! (addr ! (from ! (fld ! refl (hop ! (look-in ! 30 (sub ! 0 refl (whole
-            !))) (stop !))))) (from ! (stop !)) (init ! 10 refl (tt, tt)) $
-            assigns ! (agg ! (and-then ! (load ! (from ! (stop !)) (look ! 10 refl)) (and-then ! (load ! (from ! (fld ! refl (stop !)))
-            (look-in ! 30 (sub ! 1 refl (whole !)))) (no-more !)))) (from ! (stop !)) (init ! 8 refl
-            (tt, (tt, (record { fits = g₁ .0 }, tt)))) $ move ! (37 ∷ 36 ∷ []) $ use2 W (raw (Serve .pre (to-serve p))) (goes-serve p
-            (subst (Is P.the-row p) (LL.tells P.the-type P′.the-laws p (u ∷ []) ip) ip) (g₂ .0) gm) $
-            -- [what serve_chosen asks; desks; κ₂'s; _k at 3 + 2 (16 - k); …]
-            calls-at ! fm Serve known-serve (to-serve p) (and-then ! (load ! (from ! (stop !)) (look ! 13 refl)) (and-then ! (load ! (from
-            ! (stop !)) (look ! 9 refl)) (and-then ! (load ! (from ! (stop !)) (look ! 25 refl)) (and-then ! (load ! (from ! (stop !))
-            (look ! 27 refl)) (and-then ! (load ! (from ! (stop !)) (look ! 23 refl)) (no-more !)))))) (λ v.
-            use1 W (later (some (λ (r : Turn). ((‵ (flft κ₀ q₀) ⊛ ‵ (flft κ₁ q₁) ⊛ ‵ ftrue) ⊛ ‵ (S.the-row .own r (v ∷ []))) ⊛ raw
-            (ensured 𝓤 H A serve-chosen.ended (serve-chosen.clauses 𝓤 H A mem run) (κ₀, (κ₁, tt)) (x₀, (x₁, (n, (m, (p, tt))))) tt r))))
-            (id⊢ 𝓤 _) $ await ! tt $ pick ! (λ r. split ! $ move ! (1 ∷ []) $
-            use1 W (some (λ (ws : List ℕ × (List ℕ × (Unit {0} × (Unit {0} × (Unit {0} × Unit {0}))))). ‵ (lasts serve-chosen.ended
-            (κ₀, (κ₁, tt)) (x₀, (x₁, (n, (m, (p, tt))))) ws) ⊛ raw (fact 𝓤 ((r ≡ served p .answer) × (ws .0 ≡ served p .pool) × (ws .1
-            .0 ≡ served p .list))))) (id⊢ 𝓤 _) $ pick ! (λ ws. split ! $ move ! (1 ∷ []) $
-            heard ! ((r ≡ served p .answer) × (ws .0 ≡ served p .pool) × (ws .1 .0 ≡ served p .list)) (λ f. fsplit ! $ fsplit ! $
-            move ! (1 ∷ []) $ feqL ! (λ len₀. move ! (1 ∷ []) $ fsplit ! $ fsplit ! $ move ! (1 ∷ []) $ feqL ! (λ len₁.
-            -- [the last list; …; the last pool; the tokens and the result; desks; κ₂'s; _k at 6 + 2 (16 - k); …]
+            params1 ! $ pass1 ! (init ! 30 refl (tt, (tt, (record { fits = g₀ .0 }, tt)))) $ pass1 ! (init ! 28 refl
+            (tt, (tt, (record { fits = g₁ .0 }, tt)))) $ pass1 ! (init ! 26 refl (tt, (tt, (record { fits = g₂ .0 }, tt)))) $
+            pass1 ! (init ! 24 refl (tt, record { fits = gm })) $ pass0 ! $
+            -- [_k at 2 (16 - k), with what frees it; pool 34; list 35; desks 36; κ₀'s 37; κ₁'s 38; κ₂'s 39]
+            assigns ! (addr ! (from ! (fld ! refl (hop ! (look-in ! 30 (sub ! 0 refl (whole !))) (stop !))))) (from ! (stop !)) (init ! 20
+            refl (tt, tt)) $ assigns ! (agg ! (and-then ! (load ! (from ! (stop !)) (look ! 20 refl)) (and-then ! (load ! (from ! (fld !
+            refl (stop !))) (look-in ! 30 (sub ! 1 refl (whole !)))) (no-more !)))) (from ! (stop !)) (init ! 18 refl
+            (tt, (tt, (record { fits = g₀ .0 }, tt)))) $ assigns ! (addr ! (from ! (fld ! refl (hop ! (look-in ! 28 (sub ! 0 refl (whole
+            !))) (stop !))))) (from ! (stop !)) (init ! 16 refl (tt, tt)) $ assigns ! (agg ! (and-then ! (load ! (from ! (stop !)) (look !
+            16 refl)) (and-then ! (load ! (from ! (fld ! refl (stop !))) (look-in ! 28 (sub ! 1 refl (whole !)))) (no-more !)))) (from !
+            (stop !)) (init ! 14 refl (tt, (tt, (record { fits = g₁ .0 }, tt)))) $ assigns ! (addr ! (from ! (fld ! refl (hop ! (look-in !
+            26 (sub ! 0 refl (whole !))) (stop !))))) (from ! (stop !)) (init ! 12 refl (tt, tt)) $ assigns ! (agg ! (and-then ! (load !
+            (from ! (stop !)) (look ! 12 refl)) (and-then ! (load ! (from ! (fld ! refl (stop !))) (look-in ! 26 (sub ! 1 refl (whole
+            !)))) (no-more !)))) (from ! (stop !)) (init ! 10 refl (tt, (tt, (record { fits = g₂ .0 }, tt)))) $
+            -- the pool is lent to read for a lifetime ν of the call
+            move ! (37 ∷ 34 ∷ []) $ lft-new ! tt (λ ν. move ! (2 ∷ 1 ∷ []) $ use2 W (later (some (λ (δ : GName). ‵ (ShrSlice (named 0) (ν
+            ∷ []) u64 .own (x₀ δ) (s₀ ∷ [])) ⊛ ‵ (LentToRead u64 κ₀ (ν ∷ []) q₀ γ₀ b₀ o₀ ps)))) (lends-to-read u64 κ₀ (ν ∷ []) q₀ γ₀ b₀ o₀
+            𝓤 H A W (named 0) (named 0) ps g₀) $ await ! tt $ pick ! (λ δ. split ! $
+            -- [the pool to read; what is kept of it; ν's; _k at 3 + 2 (16 - k); …; list 37; desks 38; κ₁'s 39; κ₂'s 40]
+            move ! (39 ∷ 37 ∷ []) $ lft-new ! tt (λ ν′. move ! (2 ∷ 1 ∷ []) $ use2 W (later (some (λ (δ′ : GName). ‵ (MutSlice (named 1)
+            (ν′ ∷ []) u64 .own (x₁ δ′ ls) (s₁ (length ls) ∷ [])) ⊛ ‵ (LentAgain u64 κ₁ (ν′ ∷ []) q₁ γ₁ b₁ o₁ δ′ ls)))) (lends-again u64 κ₁
+            (ν′ ∷ []) q₁ γ₁ b₁ o₁ 𝓤 H A W (named 1) (named 1) ls g₁) $ await ! tt $ pick ! (λ δ′. split ! $
+            -- [the list; what is kept of it; ν′'s; the pool to read; what is kept of it; ν's; …; desks 40; κ₂'s 41]
+            move ! (2 ∷ 41 ∷ []) $ fjoin ! $ move ! (5 ∷ 0 ∷ []) $ fjoin ! $ move ! (1 ∷ 39 ∷ []) $ fjoin ! $ move ! (3 ∷ 0 ∷ []) $
+            fjoin ! $ move ! (1 ∷ 0 ∷ []) $ use2 W (raw (Plan .pre (to-plan ν ν′ δ δ′))) (goes-plan ν ν′ δ δ′ gm) $
+            -- [what plan_turn asks; what is kept of the list; what is kept of the pool; _k at 3 + 2 (16 - k); …]
+            calls-at ! fm Plan known-plan (to-plan ν ν′ δ δ′) (and-then ! (load ! (from ! (stop !)) (look ! 21 refl)) (and-then ! (load !
+            (from ! (stop !)) (look ! 17 refl)) (and-then ! (load ! (from ! (stop !)) (look ! 13 refl)) (and-then ! (load ! (from ! (stop
+            !)) (look ! 27 refl)) (no-more !))))) (λ v. use1 W (later (some (λ (r : Turn). ((‵ (flft (ν ∷ []) fullShare) ⊛ ‵ (flft (ν′ ∷
+            []) fullShare) ⊛ ‵ (flft κ₂ q₂) ⊛ ‵ ftrue) ⊛ ‵ (S.the-row .own r (v ∷ []))) ⊛ raw (ensured 𝓤 H A plan-turn.ended
+            (plan-turn.clauses 𝓤 H A mem run) (for-plan ν ν′ δ δ′) (of-plan ν ν′ δ δ′) tt r)))) (id⊢ 𝓤 _) $ await ! tt $
+            pick ! (λ r. split ! $ move ! (1 ∷ []) $ use1 W (some (λ (ws : Unit {0} × (List ℕ × (List Desk × (Unit {0} × Unit {0})))). ‵
+            (lasts plan-turn.ended (for-plan ν ν′ δ δ′) (of-plan ν ν′ δ δ′) ws) ⊛ raw (fact 𝓤 (PlanTurnPromise ps ls ds m r (ws .1 .0) (ws
+            .1 .1 .0))))) (id⊢ 𝓤 _) $ pick ! (λ ws. split ! $ move ! (1 ∷ []) $ heard ! (PlanTurnPromise ps ls ds m r (ws .1 .0) (ws .1 .1
+            .0)) (λ f. fsplit ! $ drop ! $ fsplit ! $ fsplit ! $ move ! (1 ∷ []) $ feqL ! (λ len₁. move ! (1 ∷ []) $ fsplit ! $ fsplit ! $
+            move ! (1 ∷ []) $ feqL ! (λ len₂.
+            -- [the last desks; …; the last list; the tokens and the result; what is kept of list and pool; _k at 6 + 2 (16 - k); …]
             move ! (3 ∷ []) $ split ! $ move ! (1 ∷ []) $ peeks ! S.the-row (Is S.the-row) (shows 𝓤 H A S.the-row) r (v ∷ []) (λ ir.
             let fields = LL.owed S.the-type S′.the-laws r (v ∷ []) ir in
             let ir′ = subst (Is S.the-row r) (LL.tells S.the-type S′.the-laws r (v ∷ []) ir) ir in
-            land ! (from ! (stop !)) (init ! 25 refl (LL.lawful S.the-type S′.the-laws 𝓤 H A W .typed r _ ir .0)) $
-            rewrite ! 25 (λ (w : Val). ‵ (fat fullShare S′.mir l₇ 0 w)) (ap only (LL.tells S.the-type S′.the-laws r (v ∷ []) ir)) refl $
-            drop ! $ move ! (2 ∷ []) $ drop ! $
-            -- [the tokens; the last list; the last pool; desks; κ₂'s; _k at 5 + 2 (16 - k); …]
-            assigns ! (addr ! (from ! (fld ! refl (hop ! (look-in ! 31 (sub ! 0 refl (whole !))) (stop !))))) (from ! (stop !)) (init ! 7
-            refl (tt, tt)) $ assigns ! (agg ! (and-then ! (load ! (from ! (stop !)) (look ! 7 refl)) (and-then ! (load ! (from ! (fld
-            ! refl (stop !))) (look-in ! 31 (sub ! 1 refl (whole !)))) (no-more !)))) (from ! (stop !)) (init ! 5 refl
-            (tt, (tt, (record { fits = g₂ .0 }, tt)))) $ move ! (4 ∷ 3 ∷ []) $ use2 W (raw (Empties .pre (to-empty (r .member))))
-            (goes-empty (r .member) (fields .1 .0 .1)) $
-            -- [what empty_desk asks; the tokens; the last list; the last pool; _k at 4 + 2 (16 - k); …]
-            calls-at ! fm Empties known-empty (to-empty (r .member)) (and-then ! (load ! (from ! (stop !)) (look ! 4 refl)) (and-then
-            ! (load ! (from ! (fld ! refl (stop !))) (look-in ! 22 (sub ! 1 refl (whole !)))) (no-more !))) (λ w.
-            use1 W (later (some (λ (r′ : Unit {0}). ((‵ (flft κ₂ q₂) ⊛ ‵ ftrue) ⊛ ‵ (Nothing .own r′ (w ∷ []))) ⊛ raw
-            (ensured 𝓤 H A empty-desk.ended (empty-desk.clauses 𝓤 H A mem run) (κ₂, tt) (x₂ γ₂ ds, (r .member, tt)) tt r′)))) (id⊢ 𝓤 _) $
-            await ! tt $ pick ! (λ r′. split ! $ move ! (1 ∷ []) $ use1 W (some (λ (ys : List Desk × (Unit {0} × Unit {0})). ‵ (lasts
-            empty-desk.ended (κ₂, tt) (x₂ γ₂ ds, (r .member, tt)) ys) ⊛ raw (fact 𝓤 (ys .0 ≡ emptied ds (r .member))))) (id⊢ 𝓤 _) $
-            pick ! (λ ys. split ! $ move ! (1 ∷ []) $ heard ! (ys .0 ≡ emptied ds (r .member)) (λ h. fsplit ! $ fsplit ! $
-            move ! (1 ∷ []) $ feqL ! (λ len₂. move ! (2 ∷ []) $ split ! $ move ! (1 ∷ []) $
-            peeks ! Nothing (Is Nothing) (shows 𝓤 H A Nothing) r′ (w ∷ []) (λ iu.
-            -- [what the result owns; κ₂'s; the last desks; …; the tokens; the last list; the last pool; _k at 7 + 2 (16 - k); …]
-            land ! (from ! (stop !)) (init ! 11 refl (nothing-lawful 𝓤 H A W .typed r′ _ iu .0)) $ drop ! $ move ! (2 ∷ []) $ drop ! $
-            assigns ! (of-opd ! (load ! (from ! (stop !)) (look ! 23 refl))) (from ! (stop !)) (init ! 37 refl (LL.lawful S.the-type
-            S′.the-laws 𝓤 H A W .typed r _ ir′ .0)) $ returns ! (look ! 37 refl) $ forget ! 5 refl $ forget ! 7 refl $ forget ! 9 refl $
-            forget ! 11 refl $ forget ! 13 refl $ forget ! 15 refl $ forget ! 17 refl $ forget ! 19 refl $ forget ! 21 refl $
-            forget ! 23 refl $ forget ! 25 refl $ forget ! 27 refl $ forget ! 29 refl $ forget ! 31 refl $ forget ! 33 refl $
-            forget ! 35 refl $ forget ! 37 refl $ move ! (37 ∷ 38 ∷ []) $ free1 ! $ move ! (35 ∷ 36 ∷ []) $ free1 ! $
-            move ! (33 ∷ 34 ∷ []) $ free1 ! $ move ! (31 ∷ 32 ∷ []) $ free1 ! $ move ! (29 ∷ 30 ∷ []) $ free1 ! $ move ! (27 ∷ 28 ∷ []) $
-            free1 ! $ move ! (25 ∷ 26 ∷ []) $ free1 ! $ move ! (23 ∷ 24 ∷ []) $ free1 ! $ move ! (21 ∷ 22 ∷ []) $ free1 ! $
-            move ! (19 ∷ 20 ∷ []) $ free1 ! $ move ! (17 ∷ 18 ∷ []) $ free1 ! $ move ! (15 ∷ 16 ∷ []) $ free1 ! $ move ! (13 ∷ 14 ∷ []) $
-            free1 ! $ move ! (11 ∷ 12 ∷ []) $ free1 ! $ move ! (9 ∷ 10 ∷ []) $ free1 ! $ move ! (7 ∷ 8 ∷ []) $ free1 ! $
-            move ! (5 ∷ 6 ∷ []) $ free1 ! $ free0 ! $ keep ! (0 ∷ 1 ∷ 2 ∷ 3 ∷ 4 ∷ []) $
-            by ! (exits gm r (ws .0) (ws .1 .0) (ys .0) ir′ len₀ len₁ len₂ (leaves ps ls ds m p (e .0) (f .0, f .1, f .2)
-            h)))))))))))))))))))))))
+            land ! (from ! (stop !)) (init ! 29 refl (LL.lawful S.the-type S′.the-laws 𝓤 H A W .typed r _ ir .0)) $ rewrite ! 29 (λ (w :
+            Val). ‵ (fat fullShare S′.mir l₅ 0 w)) (ap only (LL.tells S.the-type S′.the-laws r (v ∷ []) ir)) refl $ drop ! $
+            move ! (2 ∷ []) $ drop ! $
+            -- both lifetimes are ended, and pool and list come back
+            split ! $ lft-end ! tt $ move ! (0 ∷ 5 ∷ []) $ use2 W (later (‵ (MutSlice (named 0) κ₀ u64 .own (x₀ γ₀) (s₀ ∷ [])) ⊛ ‵ (flft
+            κ₀ q₀))) (was-read u64 κ₀ (ν ∷ []) q₀ γ₀ b₀ o₀ 𝓤 H A W (named 0) (named 0) ps g₀) $ await ! tt $ split ! $ move ! (2 ∷ []) $
+            split ! $ lft-end ! tt $ move ! (0 ∷ 6 ∷ 5 ∷ []) $ use3 W (later (‵ (MutSlice (named 1) κ₁ u64 .own (x₁ γ₁ (ws .1 .0)) (s₁
+            (length ls) ∷ [])) ⊛ ‵ (flft κ₁ q₁))) (comes-back u64 κ₁ (ν′ ∷ []) q₁ γ₁ b₁ o₁ 𝓤 H A W (named 1) (named 1) ls δ′ (ws .1 .0) g₁
+            len₁) $ await ! tt $ split ! $
+            -- [list; κ₁'s; κ₂'s; pool; κ₀'s; the last desks; _k at 6 + 2 (16 - k); …]
+            assigns ! (addr ! (from ! (fld ! refl (hop ! (look-in ! 36 (sub ! 0 refl (whole !))) (stop !))))) (from ! (stop !)) (init ! 12
+            refl (tt, tt)) $ assigns ! (agg ! (and-then ! (load ! (from ! (stop !)) (look ! 12 refl)) (and-then ! (load ! (from ! (fld !
+            refl (stop !))) (look-in ! 36 (sub ! 1 refl (whole !)))) (no-more !)))) (from ! (stop !)) (init ! 10 refl
+            (tt, (tt, (record { fits = g₀ .0 }, tt)))) $ assigns ! (addr ! (from ! (fld ! refl (hop ! (look-in ! 34 (sub ! 0 refl (whole
+            !))) (stop !))))) (from ! (stop !)) (init ! 8 refl (tt, tt)) $ assigns ! (agg ! (and-then ! (load ! (from ! (stop !)) (look !
+            8 refl)) (and-then ! (load ! (from ! (fld ! refl (stop !))) (look-in ! 34 (sub ! 1 refl (whole !)))) (no-more !)))) (from !
+            (stop !)) (init ! 6 refl (tt, (tt, (record { fits = g₁ .0 }, tt)))) $
+            -- the list is lent to read, for another lifetime
+            rewrite ! 0 (λ (k : ℕ). ‵ (MutSlice (named 1) κ₁ u64 .own (x₁ γ₁ (ws .1 .0)) (s₁ k ∷ []))) (sym len₁) refl $
+            lft-new ! tt (λ ν″. move ! (1 ∷ 2 ∷ []) $ use2 W (later (some (λ (δ″ : GName). ‵ (ShrSlice (named 1) (ν″ ∷ []) u64 .own (x₁ δ″
+            (ws .1 .0)) (s₁ (length (ws .1 .0)) ∷ [])) ⊛ ‵ (LentToRead u64 κ₁ (ν″ ∷ []) q₁ γ₁ b₁ o₁ (ws .1 .0))))) (lends-to-read u64 κ₁
+            (ν″ ∷ []) q₁ γ₁ b₁ o₁ 𝓤 H A W (named 1) (named 1) (ws .1 .0) (subst (Room u64) (sym len₁) g₁)) $ await ! tt $
+            pick ! (λ δ″. split ! $ rewrite ! 0 (λ (k : ℕ). ‵ (ShrSlice (named 1) (ν″ ∷ []) u64 .own (x₁ δ″ (ws .1 .0)) (s₁ k ∷ []))) len₁
+            refl $
+            -- [the list to read; what is kept of it; ν″'s; κ₂'s; pool; κ₀'s; the last desks; _k at 7 + 2 (16 - k); …]
+            move ! (5 ∷ 2 ∷ []) $ fjoin ! $ move ! (4 ∷ 1 ∷ []) $ fjoin ! $ move ! (1 ∷ 0 ∷ []) $ use2 W (raw (Carry .pre (to-carry ν″ δ″
+            (ws .1 .0) (r .events)))) (goes-carry ν″ δ″ (ws .1 .0) (r .events) (fields .1 .1 .0 .1)) $
+            -- [what carry_all asks; what is kept of the list; κ₂'s; the last desks; _k at 4 + 2 (16 - k); …]
+            calls-at ! fm Carry known-carry (to-carry ν″ δ″ (ws .1 .0) (r .events)) (and-then ! (load ! (from ! (stop !)) (look ! 8 refl))
+            (and-then ! (load ! (from ! (stop !)) (look ! 4 refl)) (and-then ! (load ! (from ! (fld ! refl (stop !))) (look-in ! 26 (sub !
+            2 refl (whole !)))) (no-more !)))) (λ w. use1 W (later (some (λ (r′ : Unit {0}). ((‵ (flft κ₀ q₀) ⊛ ‵ (flft (ν″ ∷ [])
+            fullShare) ⊛ ‵ ftrue) ⊛ ‵ (Nothing .own r′ (w ∷ []))) ⊛ raw (ensured 𝓤 H A carry-all.ended (carry-all.clauses 𝓤 H A mem run)
+            (for-carry ν″ δ″ (ws .1 .0) (r .events)) (of-carry ν″ δ″ (ws .1 .0) (r .events)) tt r′)))) (id⊢ 𝓤 _) $ await ! tt $
+            pick ! (λ r′. split ! $ move ! (1 ∷ []) $ use1 W (some (λ (ys : List ℕ × (Unit {0} × (Unit {0} × Unit {0}))). ‵ (lasts
+            carry-all.ended (for-carry ν″ δ″ (ws .1 .0) (r .events)) (of-carry ν″ δ″ (ws .1 .0) (r .events)) ys) ⊛ raw (fact 𝓤
+            (CarryAllPromise ps (ws .1 .0) (r .events) (ys .0))))) (id⊢ 𝓤 _) $ pick ! (λ ys. split ! $ move ! (1 ∷ []) $
+            heard ! (CarryAllPromise ps (ws .1 .0) (r .events) (ys .0)) (λ h. fsplit ! $ fsplit ! $ move ! (1 ∷ []) $ feqL ! (λ len₀. move
+            ! (2 ∷ []) $ split ! $ move ! (1 ∷ []) $ peeks ! Nothing (Is Nothing) (shows 𝓤 H A Nothing) r′ (w ∷ []) (λ iu.
+            -- [what the result owns; the tokens; the last pool; …; what is kept of the list; κ₂'s; the last desks; _k at 7 + 2 (16 - k)]
+            land ! (from ! (stop !)) (init ! 15 refl (nothing-lawful 𝓤 H A W .typed r′ _ iu .0)) $ drop ! $ move ! (2 ∷ []) $ drop ! $
+            split ! $ move ! (1 ∷ []) $ split ! $ lft-end ! tt $ move ! (0 ∷ 4 ∷ []) $ use2 W (later (‵ (MutSlice (named 1) κ₁ u64 .own
+            (x₁ γ₁ (ws .1 .0)) (s₁ (length (ws .1 .0)) ∷ [])) ⊛ ‵ (flft κ₁ q₁))) (was-read u64 κ₁ (ν″ ∷ []) q₁ γ₁ b₁ o₁ 𝓤 H A W (named 1)
+            (named 1) (ws .1 .0) (subst (Room u64) (sym len₁) g₁)) $ await ! tt $ split ! $ rewrite ! 0 (λ (k : ℕ). ‵ (MutSlice (named 1)
+            κ₁ u64 .own (x₁ γ₁ (ws .1 .0)) (s₁ k ∷ []))) len₁ refl $ move ! (2 ∷ []) $ drop ! $
+            -- [list; κ₁'s; κ₀'s; the last pool; κ₂'s; the last desks; _k at 6 + 2 (16 - k)]
+            assigns ! (of-opd ! (load ! (from ! (stop !)) (look ! 28 refl))) (from ! (stop !)) (init ! 38 refl (LL.lawful S.the-type
+            S′.the-laws 𝓤 H A W .typed r _ ir′ .0)) $ returns ! (look ! 38 refl) $ frees-all ! E (_ ∷ _ ∷ _ ∷ _ ∷ _ ∷ _ ∷ _ ∷ _ ∷ _ ∷ _ ∷
+            _ ∷ _ ∷ _ ∷ _ ∷ _ ∷ _ ∷ _ ∷ []) (Gone (ys .0) (ws .1 .0) (ws .1 .1 .0)) (exits gm r (ys .0) (ws .1 .0) (ws .1 .1 .0) ir′ len₀
+            len₁ len₂ (joined ps ls ds m r (ys .0) (ws .1 .0) (ws .1 .1 .0) (f, h))))))))))))))))))))))
 
-      pub walk : Room u64 (length ps) → Room u64 (length ls) → Room D.the-row n → m < 2 ^ 64
+      pub walk : Room u64 (length ps) → Room u64 (length ls) → Room D.the-row (length ds) → m < 2 ^ 64
           → ent 𝓤 (onEntry 𝓤 H A turn.signature κs (q₀, (q₁, (q₂, tt))) a at)
-          (WpFn 𝓤 H C Λ code.function (s₀ ∷ s₁ ∷ s₂ ∷ vint w64 m ∷ []) Post)
+          (WpFn 𝓤 H C Λ code.function (s₀ ∷ s₁ (length ls) ∷ s₂ ∷ vint w64 m ∷ []) Post)
       walk g₀ g₁ g₂ gm =
           qed W ((‵ (flft κ₀ q₀) ⊛ ‵ (flft κ₁ q₁) ⊛ ‵ (flft κ₂ q₂) ⊛ ‵ ftrue) ∷ ‵
           (owns (MutSlice (named 0) κ₀ u64 ∷ MutSlice (named 1) κ₁ u64 ∷ MutSlice (named 2) κ₂ D.the-row ∷ u64 ∷ []) a at) ∷ []) ∵
           split ! $ move ! (1 ∷ []) $ split ! $ move ! (1 ∷ []) $ split ! $
-          move ! (3 ∷ 2 ∷ []) $ fjoin ! $ move ! (3 ∷ []) $ fsplit ! $ move ! (1 ∷ []) $ fsplit ! $ move ! (1 ∷ []) $ fsplit ! $
-          move ! (3 ∷ 2 ∷ []) $ fjoin ! $ keep ! (0 ∷ 1 ∷ 4 ∷ 3 ∷ []) $ enter ! C Λ code.function (s₀ ∷ s₁ ∷ s₂ ∷ vint w64 m ∷ []) _ $
+          -- [κ₂'s; …; κ₁'s; κ₀'s; what is lent]
+          move ! (4 ∷ []) $ fsplit ! $ move ! (1 ∷ []) $ fsplit ! $ move ! (1 ∷ []) $ fsplit ! $
+          -- [desks; …; list; pool; κ₂'s; …; κ₁'s; κ₀'s]
+          keep ! (3 ∷ 2 ∷ 0 ∷ 7 ∷ 6 ∷ 4 ∷ []) $ enter ! C Λ code.function (s₀ ∷ s₁ (length ls) ∷ s₂ ∷ vint w64 m ∷ []) _ $
           alloc1 ! (λ l₀. alloc1 ! (λ l₁. alloc1 ! (λ l₂. alloc1 ! (λ l₃. alloc1 ! (λ l₄. alloc1 ! (λ l₅. alloc1 ! (λ l₆. alloc1 ! (λ l₇.
-          alloc1 ! (λ l₈. alloc1 ! (λ l₉. alloc1 ! (λ l₁₀. alloc1 ! (λ l₁₁. alloc1 ! (λ l₁₂. alloc1 ! (λ l₁₃. alloc1 ! (λ l₁₄. alloc1
-          ! (λ l₁₅. alloc1 ! (λ l₁₆. alloc0 ! $ begin g₀ g₁ g₂ gm l₀ l₁ l₂ l₃ l₄ l₅ l₆ l₇ l₈ l₉ l₁₀ l₁₁ l₁₂ l₁₃ l₁₄ l₁₅
-          l₁₆)))))))))))))))))
+          alloc1 ! (λ l₈. alloc1 ! (λ l₉. alloc1 ! (λ l₁₀. alloc1 ! (λ l₁₁. alloc1 ! (λ l₁₂. alloc1 ! (λ l₁₃. alloc1 ! (λ l₁₄. alloc1 !
+          (λ l₁₅. alloc1 ! (λ l₁₆. alloc0 ! $ begin g₀ g₁ g₂ gm l₀ l₁ l₂ l₃ l₄ l₅ l₆ l₇ l₈ l₉ l₁₀ l₁₁ l₁₂ l₁₃ l₁₄ l₁₅ l₁₆)))))))))))))))))
