@@ -1,4 +1,6 @@
 // What the calls on a pool are asked and what they answer. The steps of each change are definitions, in specs/.
+#![tactic(auto)]
+
 use words::Refusal;
 
 // What a desk may hold: a put of a key and a value, a fetch of a key, a delete of a key.

@@ -1,4 +1,6 @@
 // The desks: members submit requests, and each turn serves one of them.
+#![tactic(auto)]
+
 mod answer;
 mod asking;
 mod choosing;

@@ -19,7 +19,7 @@ impl Desk {
 
 // The constants are those of the definitions.
 fn named_once() -> Desk
-    ensures* { do ⌜ (result ≡ fresh) × ((← (⟦Desk::MOST⟧).entry) ≡ desks_most) ⌝ }
+    ensures { (result ≡ fresh) × (Desk.MOST ≡ desks_most) }
 {
     Desk::FRESH
 }

@@ -1,4 +1,6 @@
 // The calls on a pool for programs in Rust and C: a slice is a pointer and a length, an answer is a struct of words.
+#![tactic(auto)]
+
 mod calls;
 pub mod replies;
 pub mod reply;

@@ -56,18 +56,18 @@ impl Kind {
 
 // The constants are the numbers of the definitions.
 fn named_once()
-    ensures* do_value { do ⌜ (← (⟦Kind::REFUSED⟧).entry) ≡ k.refused ⌝ }
-    ensures* do_value_2 { do ⌜ (← (⟦Kind::NEW⟧).entry) ≡ k.new ⌝ }
-    ensures* do_value_3 { do ⌜ (← (⟦Kind::REPLACED⟧).entry) ≡ k.replaced ⌝ }
-    ensures* do_value_4 { do ⌜ (← (⟦Kind::REMOVED⟧).entry) ≡ k.removed ⌝ }
-    ensures* do_value_5 { do ⌜ (← (⟦Kind::ABSENT⟧).entry) ≡ k.absent ⌝ }
-    ensures* do_value_6 { do ⌜ (← (⟦Kind::FOUND⟧).entry) ≡ k.found ⌝ }
-    ensures* do_value_7 { do ⌜ (← (⟦Kind::FORMATTED⟧).entry) ≡ k.formatted ⌝ }
-    ensures* do_value_8 { do ⌜ (← (⟦Kind::CLEAN⟧).entry) ≡ k.clean ⌝ }
-    ensures* do_value_9 { do ⌜ (← (⟦Kind::RECOVERED⟧).entry) ≡ k.recovered ⌝ }
-    ensures* do_value_10 { do ⌜ (← (⟦Kind::SOUND⟧).entry) ≡ k.sound ⌝ }
-    ensures* do_value_11 { do ⌜ (← (⟦Kind::FAULT⟧).entry) ≡ k.fault ⌝ }
-    ensures* do_value_12 { do ⌜ (← (⟦Kind::DONE⟧).entry) ≡ k.done ⌝ }
-    ensures* do_value_13 { do ⌜ (← (⟦Kind::ACCEPTED⟧).entry) ≡ k.accepted ⌝ }
-    ensures* do_value_14 { do ⌜ (← (⟦Kind::IDLE⟧).entry) ≡ k.idle ⌝ }
+    ensures refused { Kind.REFUSED ≡ k.refused }
+    ensures new { Kind.NEW ≡ k.new }
+    ensures replaced { Kind.REPLACED ≡ k.replaced }
+    ensures removed { Kind.REMOVED ≡ k.removed }
+    ensures absent { Kind.ABSENT ≡ k.absent }
+    ensures found { Kind.FOUND ≡ k.found }
+    ensures formatted { Kind.FORMATTED ≡ k.formatted }
+    ensures clean { Kind.CLEAN ≡ k.clean }
+    ensures recovered { Kind.RECOVERED ≡ k.recovered }
+    ensures sound { Kind.SOUND ≡ k.sound }
+    ensures fault { Kind.FAULT ≡ k.fault }
+    ensures done { Kind.DONE ≡ k.done }
+    ensures accepted { Kind.ACCEPTED ≡ k.accepted }
+    ensures idle { Kind.IDLE ≡ k.idle }
 {}

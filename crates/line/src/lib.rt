@@ -1,4 +1,6 @@
 // Lines of text: what a line asks, the text of its answer, and a line taken byte by byte as the bytes come.
+#![tactic(auto)]
+
 mod answering;
 mod fields;
 mod numbers;

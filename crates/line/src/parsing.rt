@@ -23,8 +23,8 @@ impl Line {
 
 // The constants are the numbers of the definitions.
 fn named_once()
-    ensures* do_value { do ⌜ (← (⟦Line::MOST⟧).entry) ≡ l.line_most ⌝ }
-    ensures* do_value_2 { do ⌜ (← (⟦Line::TEXT_MOST⟧).entry) ≡ l.text_most ⌝ }
+    ensures most { Line.MOST ≡ l.line_most }
+    ensures text_most { Line.TEXT_MOST ≡ l.text_most }
 {}
 
 // A command with one number.

@@ -1,5 +1,7 @@
 // One member's program: reads lines, asks a fresh pool of 100 nodes through a desk, and prints an answer for each line. Where a read or a
 // write fails, it says so on standard error and ends.
+#![tactic(auto)]
+
 mod output;
 mod sitting;
 

@@ -40,7 +40,7 @@ impl Node {
 }
 
 fn named_once()
-    ensures* { do ⌜ (← (⟦Node::ENTRIES⟧).entry) ≡ s.entries ⌝ }
+    ensures entries { Node.ENTRIES ≡ s.entries }
 {}
 
 pub fn slot_word(pool: &[u64], k: u64) -> u64

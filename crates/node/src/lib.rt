@@ -1,4 +1,6 @@
 // One node of sixteen words: its slot word, its entries, whether it is sound, and where a key stands in it.
+#![tactic(auto)]
+
 pub mod bytes;
 pub mod cover;
 pub mod layout;

@@ -1,4 +1,6 @@
 // Planning a split: the eight records of a full node, the new nodes, the levels above, and the log, which recovery replays too.
+#![tactic(auto)]
+
 mod building;
 pub mod logging;
 mod opening;

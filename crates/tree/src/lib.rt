@@ -1,4 +1,6 @@
 // Many nodes: the header that leads to them, and the way down to the leaf of a key.
+#![tactic(auto)]
+
 mod child;
 pub mod descend;
 pub mod header;

@@ -1,4 +1,6 @@
 // Rows of requests on a pool, each answer held against a list that is kept beside it.
+#![tactic(auto)]
+
 pub mod asking;
 mod model;
 pub mod rows;

@@ -1,5 +1,7 @@
 // The calls on lent desks for programs in Rust and C, in an archive of their own: compiled apart from the calls on a pool, neither has to
 // share its copy of these with the other.
+#![tactic(auto)]
+
 mod desks;
 mod record;
 mod replies;

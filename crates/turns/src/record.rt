@@ -23,10 +23,10 @@ impl Holds {
 
 // The constants are the numbers of the definitions.
 fn named_once()
-    ensures* do_value { do ⌜ (← (⟦Holds::NOTHING⟧).entry) ≡ d.nothing ⌝ }
-    ensures* do_value_2 { do ⌜ (← (⟦Holds::PUT⟧).entry) ≡ d.put ⌝ }
-    ensures* do_value_3 { do ⌜ (← (⟦Holds::FETCH⟧).entry) ≡ d.fetch ⌝ }
-    ensures* do_value_4 { do ⌜ (← (⟦Holds::DELETE⟧).entry) ≡ d.delete ⌝ }
+    ensures nothing { Holds.NOTHING ≡ d.nothing }
+    ensures put { Holds.PUT ≡ d.put }
+    ensures fetch { Holds.FETCH ≡ d.fetch }
+    ensures delete { Holds.DELETE ≡ d.delete }
 {}
 
 pub fn desk_of(lent: DeskRecord) -> Desk

@@ -1,6 +1,8 @@
 // Rows of requests on fresh pools. Each answer is compared with a list that the program keeps itself; the events, the refusals and the
 // height of each case with numbers that were worked out apart from it. The answers of rows of submits and turns are compared with answers
 // worked out apart. Prints a line a case.
+#![tactic(auto)]
+
 mod desks;
 mod lending;
 mod report;

@@ -1,4 +1,6 @@
 // Words, lines, events and the limits of a pool: the ground floor. It carries out one event and writes events into a lent list.
+#![tactic(auto)]
+
 mod carry;
 mod kind;
 pub mod limits;

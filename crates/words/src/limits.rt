@@ -78,25 +78,25 @@ impl Pool {
 
 // The constants are the numbers of the definitions.
 fn named_once()
-    ensures* do_value { do ⌜ (← (⟦Pool::LINE_WORDS⟧).entry) ≡ p.line_words ⌝ }
-    ensures* do_value_2 { do ⌜ (← (⟦Pool::FORM_AT⟧).entry) ≡ p.form_at ⌝ }
-    ensures* do_value_3 { do ⌜ (← (⟦Pool::TOTAL_AT⟧).entry) ≡ p.total_at ⌝ }
-    ensures* do_value_4 { do ⌜ (← (⟦Pool::LOG_OFFSET_AT⟧).entry) ≡ p.log_offset_at ⌝ }
-    ensures* do_value_5 { do ⌜ (← (⟦Pool::NODES_OFFSET_AT⟧).entry) ≡ p.nodes_offset_at ⌝ }
-    ensures* do_value_6 { do ⌜ (← (⟦Pool::CAPACITY_AT⟧).entry) ≡ p.capacity_at ⌝ }
-    ensures* do_value_7 { do ⌜ (← (⟦Pool::USED_AT⟧).entry) ≡ p.used_at ⌝ }
-    ensures* do_value_8 { do ⌜ (← (⟦Pool::ROOT_AT⟧).entry) ≡ p.root_at ⌝ }
-    ensures* do_value_9 { do ⌜ (← (⟦Pool::HEIGHT_AT⟧).entry) ≡ p.height_at ⌝ }
-    ensures* do_value_10 { do ⌜ (← (⟦Pool::FORM⟧).entry) ≡ p.form ⌝ }
-    ensures* do_value_11 { do ⌜ (← (⟦Pool::LOG_AT⟧).entry) ≡ p.log_at ⌝ }
-    ensures* do_value_12 { do ⌜ (← (⟦Pool::COMMIT_AT⟧).entry) ≡ p.commit_at ⌝ }
-    ensures* do_value_13 { do ⌜ (← (⟦Pool::PAIRS_AT⟧).entry) ≡ p.pairs_at ⌝ }
-    ensures* do_value_14 { do ⌜ (← (⟦Pool::PAIRS_MOST⟧).entry) ≡ p.pairs_most ⌝ }
-    ensures* do_value_15 { do ⌜ (← (⟦Pool::NODES_AT⟧).entry) ≡ p.nodes_at ⌝ }
-    ensures* do_value_16 { do ⌜ (← (⟦Pool::NODE_WORDS⟧).entry) ≡ p.node_words ⌝ }
-    ensures* do_value_17 { do ⌜ (← (⟦Pool::CAPACITY_MOST⟧).entry) ≡ p.capacity_most ⌝ }
-    ensures* do_value_18 { do ⌜ (← (⟦Pool::WORDS_LEAST⟧).entry) ≡ p.words_least ⌝ }
-    ensures* do_value_19 { do ⌜ (← (⟦Pool::HEIGHT_MOST⟧).entry) ≡ p.height_most ⌝ }
-    ensures* do_value_20 { do ⌜ (← (⟦Pool::LIST_WORDS⟧).entry) ≡ p.list_words ⌝ }
-    ensures* do_value_21 { do ⌜ (← (⟦Pool::EVENTS_MOST⟧).entry) ≡ p.events_most ⌝ }
+    ensures line_words { Pool.LINE_WORDS ≡ p.line_words }
+    ensures form_at { Pool.FORM_AT ≡ p.form_at }
+    ensures total_at { Pool.TOTAL_AT ≡ p.total_at }
+    ensures log_offset_at { Pool.LOG_OFFSET_AT ≡ p.log_offset_at }
+    ensures nodes_offset_at { Pool.NODES_OFFSET_AT ≡ p.nodes_offset_at }
+    ensures capacity_at { Pool.CAPACITY_AT ≡ p.capacity_at }
+    ensures used_at { Pool.USED_AT ≡ p.used_at }
+    ensures root_at { Pool.ROOT_AT ≡ p.root_at }
+    ensures height_at { Pool.HEIGHT_AT ≡ p.height_at }
+    ensures form { Pool.FORM ≡ p.form }
+    ensures log_at { Pool.LOG_AT ≡ p.log_at }
+    ensures commit_at { Pool.COMMIT_AT ≡ p.commit_at }
+    ensures pairs_at { Pool.PAIRS_AT ≡ p.pairs_at }
+    ensures pairs_most { Pool.PAIRS_MOST ≡ p.pairs_most }
+    ensures nodes_at { Pool.NODES_AT ≡ p.nodes_at }
+    ensures node_words { Pool.NODE_WORDS ≡ p.node_words }
+    ensures capacity_most { Pool.CAPACITY_MOST ≡ p.capacity_most }
+    ensures words_least { Pool.WORDS_LEAST ≡ p.words_least }
+    ensures height_most { Pool.HEIGHT_MOST ≡ p.height_most }
+    ensures list_words { Pool.LIST_WORDS ≡ p.list_words }
+    ensures events_most { Pool.EVENTS_MOST ≡ p.events_most }
 {}
