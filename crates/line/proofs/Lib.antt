@@ -4,5 +4,5 @@ pub mod Decimal
 pub mod Asked
 pub mod Written
 pub mod Texts
-pub mod Taken
+pub mod TakenLemmas
 pub mod Examples

@@ -109,7 +109,7 @@ abbrev pub every : (List ℕ → Bool) → List (List ℕ) → Bool
 every f [] = true
 every f (m ∷ ms) = f m && every f ms
 
-every_in : (f : List ℕ → Bool) {ms : List (List ℕ)} {m : List ℕ} → In m ms → T (every f ms) → f m ≡ true
+every_in : (f : List ℕ → Bool) {m : List ℕ} {ms : List (List ℕ)} → In m ms → T (every f ms) → f m ≡ true
 every_in f (here {x} {xs} e) t = rw e (is_true (f x) (both_hold (f x) (every f xs) t).0)
 every_in f (there {x} {xs} h) t = every_in f h (both_hold (f x) (every f xs) t).1
 

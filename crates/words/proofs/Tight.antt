@@ -7,10 +7,10 @@ use denote.Triple.Clauses.{AtExit}
 use borrow.Fn.Kind.{ParamKind, ResultKind}
 use borrow.Fn.Kinds.{Dens, res_t, In, Out, ended_of}
 use Rattle.words.proofs.Answers.{one_outcome, carried_told}
-use Rattle.words.proofs.carry.carry_out.Kinds as carry_out
-use Rattle.words.proofs.carry.carry_out.Reads as carry_out_reads
-use Rattle.words.proofs.carry.carry_all.Kinds as carry_all
-use Rattle.words.proofs.carry.carry_all.Reads as carry_all_reads
+use Rattle.words.proofs.carry_out.Kinds as carry_out
+use Rattle.words.proofs.carry_out.Reads as carry_out_reads
+use Rattle.words.proofs.carry_all.Kinds as carry_all
+use Rattle.words.proofs.carry_all.Reads as carry_all_reads
 
 -- of a call with these parameters and this result: its contract asks nothing of a caller, and what a caller learns by it allows one answer
 -- and one content of all that was lent to be changed

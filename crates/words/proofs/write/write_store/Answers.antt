@@ -1,0 +1,10 @@
+-- `words::write_store` meets its contract: its event is one.
+use Rattle.words.specs.Event.{store}
+use Rattle.words.proofs.Written.{wrote_one}
+use Rattle.words.proofs.write.write_store.Goals as goal
+
+pub returns : goal.returns
+returns c =
+    let a = c.args in
+    let w = c.write_event.ensures in
+    wrote_one (store a.word a.value) w.next w.words
