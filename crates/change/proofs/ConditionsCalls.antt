@@ -1,5 +1,4 @@
 -- Each call on a pool answers the number that its rows of 01's table say.
-use denote.Slice.{shr_slice_at}
 use Prim.Native.Nat.{ℕ, ◌+◌, ◌-◌, ◌*◌, ◌<◌}
 use mathlib.Core.Path.{◌≡◌, refl}
 use mathlib.Core.Logic.{inl, inr}
@@ -162,9 +161,9 @@ carry_numbers m l n = go (event_at l n) (fails_event m l n)
   where
     go : (x : Option Event) → Fails (w.NoEvent m l n) (carries m x) → Says (w.carry_rows m l n) (carried_says (carried m x)).1
     go none (breaks c) = inl (c, refl)
-    go (some e) f = shr_slice_at (inside m e) f
+    go (some e) f = at_slice (inside m e) f
       where
-        shr_slice_at : (b : Bool) → Fails (w.NoEvent m l n) b
+        at_slice : (b : Bool) → Fails (w.NoEvent m l n) b
             → Says (w.carry_rows m l n) (carried_says (if b then Done else Refused NoEvent)).1
-        shr_slice_at true (keeps h) = inr (h, refl)
-        shr_slice_at false (breaks c) = inl (c, refl)
+        at_slice true (keeps h) = inr (h, refl)
+        at_slice false (breaks c) = inl (c, refl)

@@ -1,6 +1,6 @@
 -- The put that splits a full leaf of a well-formed pool: where it stores, and what it leaves.
 use Prim.Native.Nat.{ℕ, ◌+◌, ◌-◌, ◌≤◌, ◌<◌}
-use mathlib.Core.Path.{◌≡◌, refl}
+use mathlib.Core.Path.{◌≡◌, refl, subst}
 use mathlib.Core.Logic.{inl, inr}
 use mathlib.Core.List.{List, [], ◌∷◌}
 use mathlib.Core.Bool.{Bool, true, false}
@@ -203,7 +203,7 @@ module _ {m : List ℕ} (w : WellFormed m) {key : ℕ} (y : Reached m key) (v : 
         node_other j p o x n (inl t) = omega (arith, n.0, t.1)
         node_other j p o x n (inr t) =
             let e : t.0 ≡ j = omega (arith, n, t.2) in
-            let c : 1 ≤ occ j (k ∷ ks) = rw e at t.1 in
+            let c : 1 ≤ occ j (k ∷ ks) = subst (λ (z : ℕ). 1 ≤ occ z (k ∷ ks)) e t.1 in
             omega arith
 
     pub split_leaves : has key (keys (view m y.place.number).records) ≡ false

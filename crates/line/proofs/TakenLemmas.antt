@@ -92,6 +92,10 @@ before bytes (p ∷ ps) = (bytes ++ p) ∷ ps
 before_none : (xs : List ℕ) → before [] (parts newline xs) ≡ parts newline xs
 before_none xs = rw (parted newline xs).is
 
+before_onto : (bytes : List ℕ) (x : ℕ) (p : List ℕ) (ps : List (List ℕ))
+    → before (bytes ++ (x ∷ [])) (p ∷ ps) ≡ before bytes (onto x (p ∷ ps))
+before_onto bytes x p ps = rw append_assoc
+
 pub lines_after : (bytes xs : List ℕ)
     → lines_come (taken bytes) xs ≡ map meaning (without_empty_last (before bytes (parts newline xs)))
 unfolding lines_come parts
@@ -106,7 +110,8 @@ lines_after bytes (x ∷ xs) = go (eqb x newline) (parted newline xs) (λ (bs : 
         ap (λ (l : List Line). whole (taken bytes) ∷ l) (ap (λ (t : Taker). lines_come t xs) fresh_taken ∙ ih [])
         ∙ rw (p.is, append-nil, whole_taken bytes)
     go false p ih =
-        ap (λ (t : Taker). lines_come t xs) (with_byte_taken bytes x) ∙ ih (bytes ++ (x ∷ [])) ∙ rw (p.is, append_assoc)
+        ap (λ (t : Taker). lines_come t xs) (with_byte_taken bytes x) ∙ ih (bytes ++ (x ∷ []))
+        ∙ rw p.is (ap (λ (ps : List (List ℕ)). map meaning (without_empty_last ps)) (before_onto bytes x p.first p.others))
 
 -- 01 and reading 23: the lines of an input, one after the other
 pub lines_are : (input : List ℕ) → lines_come fresh input ≡ map meaning (lines_in input)

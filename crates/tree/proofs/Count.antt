@@ -93,7 +93,7 @@ needs_most U [] = omega arith
 needs_most U (k ∷ ks) = one_more (eqb (length (U k).named) entries) (needs_most U ks)
 
 -- at most one a level, unless all are full up to the root
-needs_levels : {U : Views} {H h : ℕ} {r c : Kid} {ls : List Level} → Around U H r h c ls
+needs_levels : {U : Views} {H : ℕ} {r : Kid} {h : ℕ} {c : Kid} {ls : List Level} → Around U H r h c ls
     → (needs U (c.number ∷ above ls) ≤ suc (length (above ls))) ⊎ (length (U r.number).named ≡ entries)
 needs_levels {U} {c = c} top = go (eqb (length (U c.number).named) entries) refl
   where

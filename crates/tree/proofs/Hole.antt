@@ -177,7 +177,7 @@ module _ (U U' : Views) where
         right_is = rw (b.leaves_are, c.right_is);
       }
 
-  pub around_same : {H h : ℕ} {r c : Kid} {ls : List Level} → On U U' (above ls) → On U U' (beside U h ls)
+  pub around_same : {H : ℕ} {r : Kid} {h : ℕ} {c : Kid} {ls : List Level} → On U U' (above ls) → On U U' (beside U h ls)
       → Around U H r h c ls → Around U' H r h c ls
   around_same o o' top = top
   around_same {h = h} {c = c} o o' (under {l = l} {ls = ls} x y) =

@@ -65,7 +65,7 @@ module _ (U : Views) (q : ℕ) where
       (kids_outside q u.link u.records (fits_says least c.from c.upto u w.0).rises o)
 
   -- nor is a key of the hole left or right of it
-  pub around_miss : {H h : ℕ} {r c : Kid} {ls : List Level} → Around U H r h c ls → c.from ≤ q → q < c.upto
+  pub around_miss : {H : ℕ} {r : Kid} {h : ℕ} {c : Kid} {ls : List Level} → Around U H r h c ls → c.from ≤ q → q < c.upto
       → (find q (records_in U (leaves_left U h ls)) ≡ none) × (find q (records_in U (leaves_right U h ls)) ≡ none)
   unfolding find
   around_miss top p p' = (refl, refl)

@@ -133,6 +133,7 @@ Filled [] = ⊥
 Filled (k ∷ ks) = Unit {0}
 
 filled_append : (a b : List ℕ) → Filled a → Filled (a ++ b)
+filled_append [] b h = elim h [ ]
 filled_append (k ∷ a) b h = tt
 
 leaves_filled : (U : Views) (h : ℕ) (c : Kid) → Filled (leaves U h c)
@@ -151,6 +152,7 @@ module _ (m : List ℕ) (h : ℕ) (c : Kid) where
   leaves_linked = go (leaves (view m) h c) (leaves_filled (view m) h c)
     where
       go : (ks : List ℕ) → Filled ks → Each (λ (k : ℕ). 1 ≤ k) ks → Chain m 0 ks → at m (link_at (end 0 ks)) ≡ 0 → Linked (view m) ks 0
+      go [] f e l z = elim f [ ]
       go (k ∷ ks) f e l z = chain_linked m k ks e.0 e.1 l.1 z
 
   pub leaves_chain : Linked (view m) (leaves (view m) h c) 0
@@ -158,4 +160,5 @@ module _ (m : List ℕ) (h : ℕ) (c : Kid) where
   leaves_chain = go (leaves (view m) h c) (leaves_filled (view m) h c)
     where
       go : (ks : List ℕ) → Filled ks → Linked (view m) ks 0 → Chain m 0 ks × (at m (link_at (end 0 ks)) ≡ 0)
+      go [] f l = elim f [ ]
       go (k ∷ ks) f l = let r = linked_chain m k ks l in ((refl, r.0), r.1)

@@ -29,7 +29,10 @@ from_in j i (suc n) h k = go (λ p. from_in j (i + 1) n p (omega arith)) (dec_le
   where
     go : (i + 1 ≤ j → occ j (count_from (i + 1) n) ≡ 1) → Dec (i + 1 ≤ j) → occ j (count_from i (suc n)) ≡ 1
     go f (yes p) = omega (arith, one_other j i (omega arith), f p)
-    go f (no p) = let e : j ≡ i = omega arith in rw e (omega (arith, one_self i, from_out i (i + 1) n (inl (omega arith))))
+    go f (no p) =
+        let e : j ≡ i = omega arith in
+        let o : one j i ≡ 1 = rw e (one_self i) in
+        omega (arith, from_out j (i + 1) n (inl (omega arith)))
 
 from_range : (j i n : ℕ) → 1 ≤ occ j (count_from i n) → (i ≤ j) × (j < i + n)
 from_range j i n h = go (dec_le i j) (dec_le (i + n) j)

@@ -91,7 +91,7 @@ module _ (U U' : Views) (sized : Sized U) (used root H : ℕ) where
         total = refl;
         fit = (says_fits g (omega arith) (omega arith) (rise_more (omega arith) p rise_none), rw ks (fa, (fb, tt)));
         leaves_are = rw (ks, append-nil, append-nil);
-        nums_are = λ j. rw (ks, occ_append, append-nil) (omega arith);
+        nums_are = λ j. rw (ks, occ_append j, append-nil) (omega arith);
       }
 
   -- a level that r goes up into
