@@ -4,7 +4,7 @@ ghost use Rattle.desk.specs.Desk.{fresh, desks_most};
 
 use change::Request;
 
-#[derive(Drop)]
+#[derive(Clone, Copy)]
 pub enum Desk {
     Empty,
     Holding(Request),

@@ -8,7 +8,7 @@ use line::{Came, Line, Taker};
 use words::Refusal;
 
 // The desk, the member last served, and the output.
-#[derive(Drop)]
+#[derive(Clone, Copy)]
 pub struct Seat {
     pub desk: Desk,
     pub last: u64,
@@ -66,20 +66,20 @@ impl Sitting {
     }
 
     // All answers so far are written, and none waits.
-    pub fn told(self, out: &[u8; 4096]) -> Sitting
+    pub fn told(self, rt: &HostRuntime, out: &[u8; 4096]) -> Sitting
         requires { self.seat.output.used ≤ 4096 }
         ensures { result.seat.output.used ≡ 0 }
     {
         let seat = self.seat;
         let output = seat.output;
-        self.with_output(write_out(out, output))
+        self.with_output(write_out(rt, out, output))
     }
 
     // A read failed.
-    pub fn failed(self, message: &[u8]) -> Sitting
+    pub fn failed(self, rt: &HostRuntime, message: &[u8]) -> Sitting
         ensures { result.seat.output.used ≡ 0 }
     {
-        self.with_output(fail(message))
+        self.with_output(fail(rt, message))
     }
 }
 
@@ -93,6 +93,7 @@ fn outcome_of(turned: Turned) -> Outcome {
 }
 
 fn serve(
+    rt: &HostRuntime,
     pool: &mut [u64],
     list: &mut [u64],
     out: &mut [u8; 4096],
@@ -103,7 +104,7 @@ fn serve(
     ensures { result.output.used ≤ 4096 }
 {
     let waiting = seat.output;
-    let output = room(out, waiting);
+    let output = room(rt, out, waiting);
     let held = seat.desk;
     let asked = desk::ask(pool, list, held, seat.last, request);
     let turn = asked.turn;
@@ -126,12 +127,12 @@ fn serve(
     }
 }
 
-fn refuse(out: &mut [u8; 4096], seat: Seat) -> Seat
+fn refuse(rt: &HostRuntime, out: &mut [u8; 4096], seat: Seat) -> Seat
     requires { seat.output.used ≤ 4096 }
     ensures { result.output.used ≤ 4096 }
 {
     let waiting = seat.output;
-    let output = room(out, waiting);
+    let output = room(rt, out, waiting);
     let used = line::write_text(out, output.used, Line::Bad, Outcome::Absent, 0);
     let held = seat.desk;
     Seat {
@@ -145,20 +146,28 @@ fn refuse(out: &mut [u8; 4096], seat: Seat) -> Seat
 }
 
 // Answers the line that came, if one did.
-fn answer(pool: &mut [u64], list: &mut [u64], out: &mut [u8; 4096], came: Came, seat: Seat) -> Seat
+fn answer(
+    rt: &HostRuntime,
+    pool: &mut [u64],
+    list: &mut [u64],
+    out: &mut [u8; 4096],
+    came: Came,
+    seat: Seat,
+) -> Seat
     requires { seat.output.used ≤ 4096 }
     ensures { result.output.used ≤ 4096 }
 {
     match came {
         Came::Nothing => seat,
         Came::Whole(line) => match line {
-            Line::Ask(request) => serve(pool, list, out, request, seat),
-            Line::Bad => refuse(out, seat),
+            Line::Ask(request) => serve(rt, pool, list, out, request, seat),
+            Line::Bad => refuse(rt, out, seat),
         },
     }
 }
 
 pub fn feed(
+    rt: &HostRuntime,
     pool: &mut [u64],
     list: &mut [u64],
     out: &mut [u8; 4096],
@@ -176,7 +185,7 @@ pub fn feed(
         let came = taken.came;
         let next = taken.taker;
         taker = next;
-        seat = answer(pool, list, out, came, seat);
+        seat = answer(rt, pool, list, out, came, seat);
         i += 1;
     }
     Sitting {
@@ -187,12 +196,18 @@ pub fn feed(
 }
 
 // The last line, where it has no newline: answers what waits then.
-pub fn finish(pool: &mut [u64], list: &mut [u64], out: &mut [u8; 4096], sitting: Sitting) -> Output
+pub fn finish(
+    rt: &HostRuntime,
+    pool: &mut [u64],
+    list: &mut [u64],
+    out: &mut [u8; 4096],
+    sitting: Sitting,
+) -> Output
     requires { sitting.seat.output.used ≤ 4096 }
     ensures { result.used ≤ 4096 }
 {
     let came = line::rest(sitting.taker);
     let seat = sitting.seat;
-    let left = answer(pool, list, out, came, seat);
+    let left = answer(rt, pool, list, out, came, seat);
     left.output
 }

@@ -1,6 +1,6 @@
 // What a node is looked at under, and what looking at it answers.
 // The keys that a node may hold: from lo on, below hi, or without an upper end where it is open.
-#[derive(Drop)]
+#[derive(Clone, Copy)]
 pub struct Cover {
     pub lo: u64,
     pub hi: u64,

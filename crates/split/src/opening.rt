@@ -12,7 +12,7 @@ use node::slot::{eight_names, spot_of};
 
 // A full node, and a new record with its rank. The names are those of the eight: the new record has that of the spot which it takes if
 // it stays.
-#[derive(Drop)]
+#[derive(Clone, Copy)]
 pub struct Eight {
     pub node: u64,
     pub rank: u64,

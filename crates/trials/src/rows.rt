@@ -23,7 +23,7 @@ impl Row {
 }
 
 // The requests of a row from one number up to another.
-#[derive(Drop)]
+#[derive(Clone, Copy)]
 pub struct Part {
     pub kind: u64,
     pub row: u64,

@@ -3,7 +3,7 @@ use change::Outcome;
 use std::num::wrapping_add_u64;
 
 // The records that the list has, the events planned, the requests refused for room, the answers that differ, and the height at the end.
-#[derive(Drop)]
+#[derive(Clone, Copy)]
 pub struct Tally {
     pub n: usize,
     pub events: u64,

@@ -5,6 +5,7 @@ use crate::report::tell_whether;
 use crate::steps::{Step, run};
 use change::{Outcome, Request};
 use desk::Turned;
+use std::io;
 use trials::asking::{CAPACITY, LIST_WORDS, POOL_WORDS, make};
 use words::{Pool, Refusal};
 
@@ -175,31 +176,34 @@ fn no_room() -> bool {
     filled & run(&mut pool, &mut list, 3, 0, new)
 }
 
-fn tell_refusals() {
-    tell_whether(b"full desk", full_desk());
-    tell_whether(b"no desks", no_desks(0));
-    tell_whether(b"seventeen desks", no_desks(17));
-    tell_whether(b"last served past the desks", last_past_desks());
-    tell_whether(b"turn with a short list", short_list());
+fn tell_refusals(rt: &impl Print) -> io::Result<()> {
+    tell_whether(rt, b"full desk", full_desk())?;
+    tell_whether(rt, b"no desks", no_desks(0))?;
+    tell_whether(rt, b"seventeen desks", no_desks(17))?;
+    tell_whether(rt, b"last served past the desks", last_past_desks())?;
+    tell_whether(rt, b"turn with a short list", short_list())?;
     tell_whether(
+        rt,
         b"no pool in a turn",
         with_word(Pool::FORM_AT, 0, Refusal::NoPool),
-    );
+    )?;
     tell_whether(
+        rt,
         b"unfinished in a turn",
         with_word(Pool::COMMIT_AT, 1, Refusal::Unfinished),
-    );
+    )?;
     tell_whether(
+        rt,
         b"damaged in a turn",
         with_word(Pool::ROOT_AT, 2, Refusal::Damaged),
-    );
-    tell_whether(b"no room in a turn", no_room());
+    )?;
+    tell_whether(rt, b"no room in a turn", no_room())
 }
 
-pub fn tell_desks() {
-    tell_whether(b"one desk", one_desk());
-    tell_whether(b"three desks", three_desks());
-    tell_whether(b"sixteen desks", sixteen_desks());
-    tell_whether(b"no desk full", none_full());
-    tell_refusals();
+pub fn tell_desks(rt: &impl Print) -> io::Result<()> {
+    tell_whether(rt, b"one desk", one_desk())?;
+    tell_whether(rt, b"three desks", three_desks())?;
+    tell_whether(rt, b"sixteen desks", sixteen_desks())?;
+    tell_whether(rt, b"no desk full", none_full())?;
+    tell_refusals(rt)
 }

@@ -1,5 +1,5 @@
 // A line for each case: that it is ok, or what came.
-use libc::STDOUT_FILENO;
+use std::io;
 use trials::tally::Tally;
 
 // The events, refusals and height that were worked out.
@@ -20,35 +20,31 @@ impl Want {
     }
 }
 
-fn print(text: &[u8]) {
-    io::write_all(STDOUT_FILENO, text);
+fn print_field(rt: &impl Print, name: &[u8], number: u64) -> io::Result<()> {
+    rt.write_all(name)?;
+    print!(rt; "{number}")
 }
 
-fn print_field(name: &[u8], number: u64) {
-    print(name);
-    io::print_decimal(STDOUT_FILENO, number);
-}
-
-pub fn tell_whether(name: &[u8], good: bool) {
-    print(name);
+pub fn tell_whether(rt: &impl Print, name: &[u8], good: bool) -> io::Result<()> {
+    rt.write_all(name)?;
     if good {
-        print(b": ok\n");
-        return;
+        return rt.write_all(b": ok\n");
     }
-    print(b": differs\n");
+    rt.write_all(b": differs\n")
 }
 
-pub fn tell(name: &[u8], came: Tally, want: Want) {
+pub fn tell(rt: &impl Print, name: &[u8], came: Tally, want: Want) -> io::Result<()> {
     let events = came.events == want.events;
     let refused = came.refused == want.refused;
     let height = came.height == want.height;
     let good = (came.differ == 0) & events & refused & height;
-    tell_whether(name, good);
-    if !good {
-        print_field(b"  answers that differ: ", came.differ);
-        print_field(b", events: ", came.events);
-        print_field(b", refused: ", came.refused);
-        print_field(b", height: ", came.height);
-        print(b"\n");
+    tell_whether(rt, name, good)?;
+    if good {
+        return Ok(());
     }
+    print_field(rt, b"  answers that differ: ", came.differ)?;
+    print_field(rt, b", events: ", came.events)?;
+    print_field(rt, b", refused: ", came.refused)?;
+    print_field(rt, b", height: ", came.height)?;
+    rt.write_all(b"\n")
 }

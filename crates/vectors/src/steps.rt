@@ -7,7 +7,7 @@ use change::{Outcome, Request};
 use desk::{Desk, Submitted, Turn, Turned};
 use words::Refusal;
 
-#[derive(Drop)]
+#[derive(Clone, Copy)]
 pub enum Step {
     Submit(u64, Request, Submitted),
     Turn(Turn),

@@ -16,7 +16,7 @@ use node::{Cover, Node};
 use words::Pool;
 
 // A child's number, and the keys that it covers.
-#[derive(Drop)]
+#[derive(Clone, Copy)]
 pub struct Kid {
     pub number: u64,
     pub cover: Cover,
