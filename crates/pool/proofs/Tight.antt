@@ -4,20 +4,20 @@ use mathlib.Core.Path.{refl, sym, ◌∙◌}
 use Rattle.words.proofs.Answers.{one_outcome}
 use Rattle.words.proofs.Tight.{Tight}
 use Rattle.change.proofs.Answers.{outcome_told, answer_told, format_told, recovery_told, check_told}
-use Rattle.pool.proofs.formatting.format.Kinds as format
-use Rattle.pool.proofs.formatting.format.Reads as format_reads
-use Rattle.pool.proofs.recovering.recover.Kinds as recover
-use Rattle.pool.proofs.recovering.recover.Reads as recover_reads
-use Rattle.pool.proofs.putting.put.Kinds as put
-use Rattle.pool.proofs.putting.put.Reads as put_reads
-use Rattle.pool.proofs.deleting.delete.Kinds as delete
-use Rattle.pool.proofs.deleting.delete.Reads as delete_reads
-use Rattle.pool.proofs.serving.serve.Kinds as serve
-use Rattle.pool.proofs.serving.serve.Reads as serve_reads
-use Rattle.pool.proofs.checking.check.Kinds as check
-use Rattle.pool.proofs.checking.check.Reads as check_reads
-use Rattle.pool.proofs.fetching.fetch.Kinds as fetch
-use Rattle.pool.proofs.fetching.fetch.Reads as fetch_reads
+use Rattle.pool.proofs.format.Kinds as format
+use Rattle.pool.proofs.format.Reads as format_reads
+use Rattle.pool.proofs.recover.Kinds as recover
+use Rattle.pool.proofs.recover.Reads as recover_reads
+use Rattle.pool.proofs.put.Kinds as put
+use Rattle.pool.proofs.put.Reads as put_reads
+use Rattle.pool.proofs.delete.Kinds as delete
+use Rattle.pool.proofs.delete.Reads as delete_reads
+use Rattle.pool.proofs.serve.Kinds as serve
+use Rattle.pool.proofs.serve.Reads as serve_reads
+use Rattle.pool.proofs.check.Kinds as check
+use Rattle.pool.proofs.check.Reads as check_reads
+use Rattle.pool.proofs.fetch.Kinds as fetch
+use Rattle.pool.proofs.fetch.Reads as fetch_reads
 
 pub format_tight : Tight 2 format.ps format.r format_reads.Asked format_reads.Learnt (λ κs x. x.1.0.now)
 format_tight = record { free = λ κs a. tt; one = λ κs a r s x y. one_outcome format_told }

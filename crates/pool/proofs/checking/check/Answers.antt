@@ -40,26 +40,26 @@ counts_agree-agree-requires c =
 pub returns-then-marks-capacity : goal.returns-then-marks-capacity
 returns-then-marks-capacity c =
     let formed : form_agrees c.args.pool.now ≡ true = sym c.form_agrees.ensures ∙ c.if-not-form_agrees.false in
-    examined (check_short _ _ formed c.if-pool-ne0.left c.if-marks-capacity.true)
+    examined (check_short _ _ formed c.if-pool-ne0.false c.if-marks-capacity.true)
 
 pub returns-then-not-agree : goal.returns-then-not-agree
 returns-then-not-agree c =
     let formed : form_agrees c.args.pool.now ≡ true = sym c.form_agrees.ensures ∙ c.if-not-form_agrees.false in
-    let bad = sym c.counts_agree-agree.ensures ∙ not-true _ c.if-not-agree.true in
-    examined (check_damaged _ _ formed c.if-pool-ne0.left c.if-marks-capacity.false bad)
+    let bad = sym c.counts_agree-agree.ensures ∙ c.if-not-agree.true in
+    examined (check_damaged _ _ formed c.if-pool-ne0.false c.if-marks-capacity.false bad)
 
 pub check_tree-requires : goal.check_tree-requires
 check_tree-requires c =
     let formed : form_agrees c.args.pool.now ≡ true = sym c.form_agrees.ensures ∙ c.if-not-form_agrees.false in
     record {
       form = formed;
-      counts = sym c.counts_agree-agree.ensures ∙ not-false _ c.if-not-agree.false;
+      counts = sym c.counts_agree-agree.ensures ∙ c.if-not-agree.false;
       marks_in = c.if-marks-capacity.false;
     }
 
 pub returns : goal.returns
 returns c =
     let formed : form_agrees c.args.pool.now ≡ true = sym c.form_agrees.ensures ∙ c.if-not-form_agrees.false in
-    let good = sym c.counts_agree-agree.ensures ∙ not-false _ c.if-not-agree.false in
+    let good = sym c.counts_agree-agree.ensures ∙ c.if-not-agree.false in
     let r = c.check_tree.ensures in
-    examined (check_walked _ _ formed c.if-pool-ne0.left c.if-marks-capacity.false good r.answer r.marks)
+    examined (check_walked _ _ formed c.if-pool-ne0.false c.if-marks-capacity.false good r.answer r.marks)
