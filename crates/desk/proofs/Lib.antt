@@ -9,10 +9,6 @@ pub mod Choose
 pub mod Desks
 pub mod Submits
 pub mod Turns
-pub mod Kit
-pub mod Frames
-pub mod Seats
-pub mod Again
 pub mod Took
 pub mod Fair
 pub mod Once
@@ -21,7 +17,6 @@ pub mod Ready
 pub mod Demand3
 pub mod Wrong
 pub mod Cases
-pub mod Tight
 pub mod OurPools
 pub mod Instance
 pub mod Refused

@@ -4,7 +4,6 @@ use mathlib.Core.Path.{◌≡◌, refl, ◌∙◌, ap}
 use mathlib.Core.Logic.{◌⊎◌, inl, inr}
 use mathlib.Core.List.{List, [], ◌∷◌}
 use native.Mathlib.Omega.{arith}
-use borrow.Author.Rules.{rules}
 use borrow.Author.Tests.{lt-leb}
 use Rattle.change.specs.declared.Request.{Request}
 use Rattle.desk.specs.declared.record.Desk.{Desk}
@@ -17,18 +16,17 @@ use Rattle.desk.specs.Answers.{submit_says, turn_says}
 use Rattle.desk.specs.Promises.{AskPromise}
 use Rattle.desk.specs.inner.Parts.{filled}
 use Rattle.desk.proofs.Served.{member_is}
-use Rattle.desk.proofs.asking.ask.Statement.{statement}
-use Rattle.desk.proofs.asking.ask.Tie as tie
+use Rattle.desk.proofs.asking.ask.Goals as goal
 
-answer-one : (d : Desk) (q : Request) → (filled d q).answer ≡ submit_answer (d ∷ []) 1
+answer_one : (d : Desk) (q : Request) → (filled d q).answer ≡ submit_answer (d ∷ []) 1
 unfolding submit_answer
-answer-one Empty q = refl
-answer-one (Holding p) q = refl
+answer_one Empty q = refl
+answer_one (Holding p) q = refl
 
-desks-one : (d : Desk) (q : Request) → submit_desks (d ∷ []) 1 q ≡ (filled d q).desk ∷ []
+desks_one : (d : Desk) (q : Request) → submit_desks (d ∷ []) 1 q ≡ (filled d q).desk ∷ []
 unfolding submit_desks
-desks-one Empty q = refl
-desks-one (Holding p) q = refl
+desks_one Empty q = refl
+desks_one (Holding p) q = refl
 
 turn_one : (m l : List ℕ) (last : ℕ) (q : Request) → turn m l (Holding q ∷ []) last ≡ serve_turn m l 1 last 1 (Holding q)
 unfolding first_full serve_turn
@@ -36,10 +34,10 @@ turn_one m l zero q = refl
 turn_one m l (suc zero) q = refl
 turn_one m l (suc (suc last)) q = rw (lt-leb (suc (suc last)) 1 (omega arith))
 
-asked-one : (m l : List ℕ) (d : Desk) (last : ℕ) (q : Request)
+asked_one : (m l : List ℕ) (d : Desk) (last : ℕ) (q : Request)
     → turn m l (submit_desks (d ∷ []) 1 q) last ≡ serve_turn m l 1 last 1 (filled d q).desk
-asked-one m l Empty last q = rw (desks-one Empty q) (turn_one m l last q)
-asked-one m l (Holding p) last q = rw (desks-one (Holding p) q) (turn_one m l last p)
+asked_one m l Empty last q = rw (desks_one Empty q) (turn_one m l last q)
+asked_one m l (Holding p) last q = rw (desks_one (Holding p) q) (turn_one m l last p)
 
 module _ (m l : List ℕ) (d : Desk) (last : ℕ) (q : Request) where
   abbrev served : Filled → Left
@@ -54,9 +52,9 @@ module _ (m l : List ℕ) (d : Desk) (last : ℕ) (q : Request) where
   asked : {f : Filled} {r : Turn} {m' l' : List ℕ} {d' : Desk} → f ≡ filled d q → Serves f r m' l'
       → d' ∷ [] ≡ with_desk (f.desk ∷ []) r.member fresh → Does f r m' l' d'
   asked {f} {r} is (e, g, h) t =
-      let all : turn m l (submit_desks (d ∷ []) 1 q) last ≡ served f = asked-one m l d last q ∙ rw is in
-      let left : submit_desks (d ∷ []) 1 q ≡ f.desk ∷ [] = desks-one d q ∙ rw is in
-      let a : f.answer ≡ submit_answer (d ∷ []) 1 = rw is (answer-one d q) in
+      let all : turn m l (submit_desks (d ∷ []) 1 q) last ≡ served f = asked_one m l d last q ∙ rw is in
+      let left : submit_desks (d ∷ []) 1 q ≡ f.desk ∷ [] = desks_one d q ∙ rw is in
+      let a : f.answer ≡ submit_answer (d ∷ []) 1 = rw is (answer_one d q) in
       let b : r ≡ (turn m l (submit_desks (d ∷ []) 1 q) last).answer = rw all e in
       (ap submit_says a, ap turn_says b, rw all g, rw all h, rw (all, left) (rw e at t))
 
@@ -70,43 +68,10 @@ module _ (m l : List ℕ) (d : Desk) (last : ℕ) (q : Request) where
       go (inl n) = absurd (z (ap (λ (x : Turn). x.member) e.0 ∙ n))
       go (inr n) = let j : r.member ≡ 1 = ap (λ (x : Turn). x.member) e.0 ∙ n in rw j
 
-fill-requires : tie.Need-fill-requires
-fill-requires c κs = search rules
+pub returns-then-member-eq0 : goal.returns-then-member-eq0
+returns-then-member-eq0 c =
+    kept _ _ _ _ _ c.fill-f.ensures c.serve_chosen-turn.ensures c.if-member-eq0.true
 
-serve-chosen-requires : tie.Need-serve-chosen-requires
-serve-chosen-requires c κs = search rules
-
-same_length : tie.Need-same-length
-same_length c = search rules
-
-same-length-2 : tie.Need-same-length-2
-same-length-2 c = search rules
-
-returns : tie.Need-returns
+pub returns : goal.returns
 returns c =
-    let chosen = c.before.before.before.before.before in
-    kept _ _ _ _ _ chosen.before.before.before.fill.ensures chosen.serve-chosen.ensures c.if1.true
-
-same-length-3 : tie.Need-same-length-3
-same-length-3 c = search rules
-
-same-length-4 : tie.Need-same-length-4
-same-length-4 c = search rules
-
-returns-2 : tie.Need-returns-2
-returns-2 c =
-    let chosen = c.before.before.before.before.before in
-    emptied _ _ _ _ _ chosen.before.before.before.fill.ensures chosen.serve-chosen.ensures c.if1.false
-
-pub ask-spec : {M : Type 1} → statement M
-ask-spec =
-    tie.close
-    (tie.spec
-    fill-requires
-    serve-chosen-requires
-    same_length
-    same-length-2
-    returns
-    same-length-3
-    same-length-4
-    returns-2)
+    emptied _ _ _ _ _ c.fill-f.ensures c.serve_chosen-turn.ensures c.if-member-eq0.false
