@@ -17,6 +17,7 @@ pub mod Ready
 pub mod Demand3
 pub mod Wrong
 pub mod Cases
+pub mod Tight
 pub mod OurPools
 pub mod Instance
 pub mod Refused
