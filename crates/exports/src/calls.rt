@@ -7,58 +7,50 @@ use crate::replies::{
 };
 use crate::reply::{Reply, Verdict};
 
-#[unsafe(no_mangle)]
-pub extern "C" fn ombykape_format(pool: &[u64], list: &mut [u64], capacity: u64) -> Reply
+pub fn ombykape_format(pool: &[u64], list: &mut [u64], capacity: u64) -> Reply
     ensures { p.FormatPromise pool.now list.old capacity result list.new }
 {
     format_reply(pool::format(pool, list, capacity))
 }
 
-#[unsafe(no_mangle)]
-pub extern "C" fn ombykape_recover(pool: &[u64], list: &mut [u64]) -> Reply
+pub fn ombykape_recover(pool: &[u64], list: &mut [u64]) -> Reply
     ensures { p.RecoverPromise pool.now list.old result list.new }
 {
     recovery_reply(pool::recover(pool, list))
 }
 
-#[unsafe(no_mangle)]
-pub extern "C" fn ombykape_fetch(pool: &[u64], key: u64) -> Reply
+pub fn ombykape_fetch(pool: &[u64], key: u64) -> Reply
     ensures { p.FetchPromise pool.now key result }
 {
     outcome_reply(pool::fetch(pool, key), 0)
 }
 
-#[unsafe(no_mangle)]
-pub extern "C" fn ombykape_put(pool: &[u64], list: &mut [u64], key: u64, value: u64) -> Reply
+pub fn ombykape_put(pool: &[u64], list: &mut [u64], key: u64, value: u64) -> Reply
     ensures { p.PutPromise pool.now list.old key value result list.new }
 {
     answer_reply(pool::put(pool, list, key, value))
 }
 
-#[unsafe(no_mangle)]
-pub extern "C" fn ombykape_delete(pool: &[u64], list: &mut [u64], key: u64) -> Reply
+pub fn ombykape_delete(pool: &[u64], list: &mut [u64], key: u64) -> Reply
     ensures { p.DeletePromise pool.now list.old key result list.new }
 {
     answer_reply(pool::delete(pool, list, key))
 }
 
-#[unsafe(no_mangle)]
-pub extern "C" fn ombykape_check(pool: &[u64], marks: &mut [u8]) -> Verdict
+pub fn ombykape_check(pool: &[u64], marks: &mut [u8]) -> Verdict
     ensures { p.CheckPromise pool.now marks.old result marks.new }
 {
     verdict(pool::check(pool, marks))
 }
 
-#[unsafe(no_mangle)]
-pub extern "C" fn ombykape_carry_out(pool: &mut [u64], list: &[u64], n: u64) -> Reply
+pub fn ombykape_carry_out(pool: &mut [u64], list: &[u64], n: u64) -> Reply
     ensures { p.CarryPromise pool.old list.now n result pool.new }
 {
     carried_reply(words::carry_out(pool, list, n))
 }
 
 // The events of the list from 1 to a number, one after the other.
-#[unsafe(no_mangle)]
-pub extern "C" fn ombykape_carry_all(pool: &mut [u64], list: &[u64], events: u64)
+pub fn ombykape_carry_all(pool: &mut [u64], list: &[u64], events: u64)
     ensures { CarryAllPromise pool.old list.now events pool.new }
 {
     words::carry_all(pool, list, events);

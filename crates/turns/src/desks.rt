@@ -32,27 +32,19 @@ fn submit(desks: &mut [DeskRecord], member: u64, request: DeskRecord) -> Submitt
     Submitted::Refused(Refusal::NoDesk)
 }
 
-#[unsafe(no_mangle)]
-pub extern "C" fn ombykape_submit_put(
-    desks: &mut [DeskRecord],
-    member: u64,
-    key: u64,
-    value: u64,
-) -> Reply
+pub fn ombykape_submit_put(desks: &mut [DeskRecord], member: u64, key: u64, value: u64) -> Reply
     ensures { SubmitPromise desks.old member (Put key value) result desks.new }
 {
     submitted_reply(submit(desks, member, [Holds::PUT, key, value]))
 }
 
-#[unsafe(no_mangle)]
-pub extern "C" fn ombykape_submit_fetch(desks: &mut [DeskRecord], member: u64, key: u64) -> Reply
+pub fn ombykape_submit_fetch(desks: &mut [DeskRecord], member: u64, key: u64) -> Reply
     ensures { SubmitPromise desks.old member (Fetch key) result desks.new }
 {
     submitted_reply(submit(desks, member, [Holds::FETCH, key, 0]))
 }
 
-#[unsafe(no_mangle)]
-pub extern "C" fn ombykape_submit_delete(desks: &mut [DeskRecord], member: u64, key: u64) -> Reply
+pub fn ombykape_submit_delete(desks: &mut [DeskRecord], member: u64, key: u64) -> Reply
     ensures { SubmitPromise desks.old member (Delete key) result desks.new }
 {
     submitted_reply(submit(desks, member, [Holds::DELETE, key, 0]))
@@ -101,8 +93,7 @@ fn plan(pool: &[u64], list: &mut [u64], desks: &mut [DeskRecord], last: u64) -> 
     t
 }
 
-#[unsafe(no_mangle)]
-pub extern "C" fn ombykape_plan_turn(
+pub fn ombykape_plan_turn(
     pool: &[u64],
     list: &mut [u64],
     desks: &mut [DeskRecord],
@@ -114,8 +105,7 @@ pub extern "C" fn ombykape_plan_turn(
     turn_reply(plan(pool, list, desks, last))
 }
 
-#[unsafe(no_mangle)]
-pub extern "C" fn ombykape_turn(
+pub fn ombykape_turn(
     pool: &mut [u64],
     list: &mut [u64],
     desks: &mut [DeskRecord],

@@ -10,3 +10,5 @@ pub use desks::{
     ombykape_plan_turn, ombykape_submit_delete, ombykape_submit_fetch, ombykape_submit_put,
     ombykape_turn,
 };
+pub use record::DeskRecord;
+pub use replies::TurnReply;

@@ -1,0 +1,61 @@
+// The archive of the calls on lent desks, for programs in Rust and C. Each export is the call of that name of `turns`, with its promise:
+// a slice is a pointer and a length, an answer is a struct of words.
+#![tactic(auto)]
+
+ghost use Rattle.change.specs.declared.Request.TheVariants.{Put, Fetch, Delete};
+ghost use Rattle.turns.specs.Promises.{SubmitPromise, PlanTurnPromise, TurnPromise};
+
+use exports::reply::Reply;
+use turns::{DeskRecord, TurnReply};
+
+#[unsafe(no_mangle)]
+pub extern "C" fn ombykape_submit_put(
+    desks: &mut [DeskRecord],
+    member: u64,
+    key: u64,
+    value: u64,
+) -> Reply
+    ensures { SubmitPromise desks.old member (Put key value) result desks.new }
+{
+    turns::ombykape_submit_put(desks, member, key, value)
+}
+
+#[unsafe(no_mangle)]
+pub extern "C" fn ombykape_submit_fetch(desks: &mut [DeskRecord], member: u64, key: u64) -> Reply
+    ensures { SubmitPromise desks.old member (Fetch key) result desks.new }
+{
+    turns::ombykape_submit_fetch(desks, member, key)
+}
+
+#[unsafe(no_mangle)]
+pub extern "C" fn ombykape_submit_delete(desks: &mut [DeskRecord], member: u64, key: u64) -> Reply
+    ensures { SubmitPromise desks.old member (Delete key) result desks.new }
+{
+    turns::ombykape_submit_delete(desks, member, key)
+}
+
+#[unsafe(no_mangle)]
+pub extern "C" fn ombykape_plan_turn(
+    pool: &[u64],
+    list: &mut [u64],
+    desks: &mut [DeskRecord],
+    last: u64,
+) -> TurnReply
+    ensures { PlanTurnPromise pool.now list.old desks.old last result list.new
+        desks.new }
+{
+    turns::ombykape_plan_turn(pool, list, desks, last)
+}
+
+#[unsafe(no_mangle)]
+pub extern "C" fn ombykape_turn(
+    pool: &mut [u64],
+    list: &mut [u64],
+    desks: &mut [DeskRecord],
+    last: u64,
+) -> TurnReply
+    ensures { TurnPromise pool.old list.old desks.old last result
+        pool.new list.new desks.new }
+{
+    turns::ombykape_turn(pool, list, desks, last)
+}
