@@ -17,7 +17,7 @@ use Rattle.tree.specs.Path.{levels_above, leaf, way_to}
 use Rattle.tree.specs.Lists.{Each}
 use Rattle.tree.specs.declared.descend.Seat.{Seat}
 use Rattle.tree.specs.inner.Descended.{above_of, Reaches, Seated, Pathed}
-use Rattle.tree.proofs.Form.{form, counts}
+use Rattle.tree.proofs.Form.{counts}
 use Rattle.tree.proofs.Path.{way_to_counts}
 use Rattle.tree.proofs.Leaves.{AtLeaf, at_leaf}
 use Rattle.change.specs.declared.Outcome.TheVariants.{New}

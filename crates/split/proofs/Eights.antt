@@ -9,7 +9,7 @@ use lib.Seq.{length-take-le}
 use borrow.Author.Tests.{eqb-true, eq-eqb, ne_eqb, lt-ltb, le-leb}
 use Rattle.words.specs.Event.{at}
 use Rattle.node.specs.Lists.{insert, all_below, covered}
-use Rattle.node.specs.Slot.{bytes, names, count, entries, slot, spot}
+use Rattle.node.specs.Slot.{bytes, count, entries, slot}
 use Rattle.node.specs.View.{Record, view, keys, rank, entry, slot_at, key_at, good, no_end}
 use Rattle.node.specs.inner.Looked.{Inside}
 use Rattle.node.proofs.Digits.{bytes_take}

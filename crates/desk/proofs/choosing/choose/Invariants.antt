@@ -2,7 +2,6 @@
 use Prim.Native.Nat.{◌-◌, ◌≤◌}
 use mathlib.Core.Path.{◌≡◌}
 use lib.ListN.{length, drop}
-use Rattle.words.specs.Tests.{if◌then◌else◌}
 use Rattle.desk.specs.inner.Parts.{chosen}
 use Rattle.desk.proofs.Looking.{looking, row}
 use Rattle.desk.proofs.choosing.choose.Given as goal

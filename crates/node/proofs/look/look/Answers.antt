@@ -1,20 +1,17 @@
 -- Invariant: the whole pass comes to what the pass from here on comes to, and no more keys are counted than were read.
 use borrow.Author.Rules.{rules}
-use mathlib.Core.Path.{◌≡◌, ◌∙◌, sym}
+use mathlib.Core.Path.{◌∙◌, sym}
 use mathlib.Core.Bool.{Bool}
-use Prim.Native.Nat.{ℕ, ◌+◌, ◌-◌, ◌≤◌, ◌<◌}
+use Prim.Native.Nat.{◌+◌, ◌≤◌, ◌<◌}
 use native.Mathlib.Nat.{sub-zero, lt_of_le_of_lt}
 use native.Mathlib.Omega.{arith}
 use borrow.Author.Tests.{lt-ltb, le-ltb}
 use lib.Bits.{bit_and, and_mask}
 use lib.Dec.{leb}
 use mir.Val.{bool_byte}
-use Rattle.node.specs.Slot.{bytes, entries}
-use Rattle.node.specs.View.{view}
-use Rattle.node.specs.inner.Looked.{Looked}
+use Rattle.node.specs.Slot.{entries}
 use Rattle.node.proofs.Tests.{bit_le}
-use Rattle.node.proofs.Views.{key_of}
-use Rattle.node.proofs.Walks.{Pass, walk, walk_high, walk_fault, walk_on, walk_end}
+use Rattle.node.proofs.Walks.{walk_high, walk_fault, walk_on, walk_end}
 use Rattle.node.proofs.Walks.{none_named, too_few, too_many, walked}
 use Rattle.node.proofs.look.look.Goals as goal
 

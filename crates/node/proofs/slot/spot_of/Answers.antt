@@ -1,7 +1,6 @@
 -- Invariant: the spot is the lowest from i on that is not named.
 use borrow.Author.Rules.{rules}
 use mathlib.Core.Path.{◌∙◌, sym}
-use Prim.Native.Nat.{◌-◌}
 use native.Mathlib.Omega.{arith}
 use Rattle.node.specs.Slot.{entries}
 use Rattle.node.proofs.Spots.{spot_from, lowest_here, lowest_on, lowest_end}

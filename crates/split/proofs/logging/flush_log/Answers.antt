@@ -1,10 +1,8 @@
 -- `pool::flush_log` meets its contract: a loop over the lines.
-use Prim.Native.Nat.{◌-◌}
 use mathlib.Core.Path.{refl}
 use native.Mathlib.Nat.{sub-zero}
 use native.Mathlib.Omega.{arith}
 use borrow.Author.Rules.{rules}
-use Rattle.words.specs.Pool.{line}
 use Rattle.split.proofs.Loops.{left_all, left_on, left_none}
 use Rattle.split.proofs.Logs.{flush_turn, flush_end}
 use Rattle.split.proofs.logging.flush_log.Goals as goal

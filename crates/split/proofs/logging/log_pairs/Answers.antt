@@ -1,5 +1,4 @@
 -- `pool::log_pairs` meets its contract: a loop over the pairs, two stores a turn.
-use Prim.Native.Nat.{◌-◌}
 use mathlib.Core.Path.{refl}
 use native.Mathlib.Nat.{sub-zero}
 use native.Mathlib.Omega.{arith}

@@ -1,5 +1,4 @@
 -- `pool::replay_pairs` meets its contract: a loop over the pairs, a store and a flush a turn.
-use Prim.Native.Nat.{◌-◌}
 use mathlib.Core.Path.{refl}
 use native.Mathlib.Nat.{sub-zero, add-zero}
 use native.Mathlib.Omega.{arith}

@@ -1,7 +1,6 @@
 -- `pool::risen` meets its contract: the levels left fall.
 use Prim.Native.Nat.{◌-◌}
 use Rattle.change.specs.Steps.{full}
-use Rattle.node.specs.Slot.{count}
 use Rattle.node.specs.View.{view, slot_at}
 use Rattle.split.proofs.Eights.{met_count, met_full, met_room}
 use Rattle.split.proofs.Levels.{levels_none, rise_top}

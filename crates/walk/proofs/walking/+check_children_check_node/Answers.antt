@@ -1,11 +1,10 @@
 -- `walk::check_node` and `walk::check_children` meet their contracts: each need is a law of the walk.
-use Prim.Native.Nat.{◌+◌, ◌<◌}
+use Prim.Native.Nat.{◌+◌}
 use mathlib.Core.Bool.{not}
 use mathlib.Core.Path.{◌≡◌, ap}
 use mathlib.Core.List.{◌∷◌}
 use native.Mathlib.Omega.{arith}
 use Rattle.words.specs.Event.{at}
-use Rattle.node.specs.Slot.{entries}
 use Rattle.node.specs.View.{slot_at}
 use Rattle.node.specs.inner.Looked.{Inside}
 use Rattle.walk.specs.inner.Checking.{kid_of, kids_left}
