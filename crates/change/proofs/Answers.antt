@@ -2,7 +2,7 @@
 use mathlib.Core.Path.{◌≡◌, refl, ap}
 use lib.ListN.{drop}
 use lib.Dec.{eqb}
-use Rattle.words.specs.Tests.{if◌then◌else◌}
+use Rattle.std.specs.Prelude.{if◌then◌else◌}
 use Rattle.words.specs.Event.{at}
 use Rattle.words.specs.Kinds as k
 use Rattle.words.specs.Answers.{Said}

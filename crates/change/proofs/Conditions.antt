@@ -8,7 +8,7 @@ use mathlib.Core.Option.{Option, none, some}
 use native.Mathlib.Omega.{arith}
 use lib.ListN.{length}
 use lib.Dec.{eqb}
-use Rattle.words.specs.Tests.{if◌then◌else◌}
+use Rattle.std.specs.Prelude.{if◌then◌else◌}
 use Rattle.words.specs.Event.{Event, store, flush, fence, at, event_of, event_at}
 use Rattle.words.specs.Carry.{inside}
 use Rattle.words.proofs.Fails.{Fails, breaks, keeps, fails_and, fails_by, fails_equal, fails_less, fails_most, fails_within, not_fails}

@@ -8,7 +8,7 @@ use native.Mathlib.Omega.{arith}
 use lib.ListN.{length}
 use lib.Dec.{eqb}
 use borrow.Author.Tests.{lt-ltb}
-use Rattle.words.specs.Tests.{if◌then◌else◌}
+use Rattle.std.specs.Prelude.{if◌then◌else◌}
 use Rattle.words.specs.Pool.{line, line_words, log_at, nodes_at, commit_at, pairs_at, pairs_most}
 use Rattle.words.specs.Event.{Event, store, flush, fence, top_byte}
 use Rattle.words.specs.Blocks.{Pair, once, stores, flushes, lines, stored, replay}

@@ -7,7 +7,8 @@ use native.Mathlib.Omega.{arith}
 use lib.ListN.{length}
 use lib.Dec.{ltb, eqb}
 use borrow.Author.Tests.{ltb-false, not-false}
-use Rattle.words.specs.Tests.{if◌then◌else◌, within}
+use Rattle.std.specs.Prelude.{if◌then◌else◌}
+use Rattle.words.specs.Tests.{within}
 use Rattle.words.specs.Pool.{pairs_at, capacity_most, total_of, list_words, height_most, events_most}
 use Rattle.node.specs.Lists.{has}
 use Rattle.node.specs.View.{Record, View, view, keys}

@@ -7,7 +7,8 @@ use native.Mathlib.Omega.{arith}
 use lib.ListN.{length}
 use lib.Dec.{ltb, eqb}
 use borrow.Author.Tests.{eqb-true, eqb-false, not-false}
-use Rattle.words.specs.Tests.{if◌then◌else◌, within}
+use Rattle.std.specs.Prelude.{if◌then◌else◌}
+use Rattle.words.specs.Tests.{within}
 use Rattle.words.specs.Pool.{pairs_at, capacity_most, total_of, list_words}
 use Rattle.words.specs.Event.{Event}
 use Rattle.words.specs.Blocks.{once}

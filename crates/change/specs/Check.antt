@@ -1,6 +1,5 @@
 -- Document 01, "Check": its answer and the marks it leaves, with refusals 2, 3, 11 and the header part of 4, in this order.
-use Rattle.std.specs.Prelude.{ℕ, List, not, length, ltb}
-use Rattle.words.specs.Tests.{if◌then◌else◌}
+use Rattle.std.specs.Prelude.{ℕ, List, not, length, ltb, if◌then◌else◌}
 use Rattle.words.specs.declared.refusal.Refusal.{Refusal}
 use Rattle.words.specs.declared.refusal.Refusal.TheVariants.{Damaged, ShortMarks}
 use Rattle.tree.specs.Header.{capacity_of, counts_agree}

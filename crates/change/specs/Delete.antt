@@ -1,6 +1,5 @@
 -- Document 01, "Delete", with refusals 1 to 4.
-use Rattle.std.specs.Prelude.{ℕ, List}
-use Rattle.words.specs.Tests.{if◌then◌else◌}
+use Rattle.std.specs.Prelude.{ℕ, List, if◌then◌else◌}
 use Rattle.words.specs.Blocks.{once}
 use Rattle.node.specs.Lists.{has}
 use Rattle.node.specs.View.{view, keys, slot_at}

@@ -1,6 +1,6 @@
 -- Document 01, "Format", with refusals 1, 7 and 8.
-use Rattle.std.specs.Prelude.{ℕ, List, [], ◌∷◌, ◌++◌, not, length, ltb}
-use Rattle.words.specs.Tests.{if◌then◌else◌, within}
+use Rattle.std.specs.Prelude.{ℕ, List, [], ◌∷◌, ◌++◌, not, length, ltb, if◌then◌else◌}
+use Rattle.words.specs.Tests.{within}
 use Rattle.words.specs.Pool as p
 use Rattle.words.specs.Event.{Event, fence}
 use Rattle.words.specs.Blocks.{Pair, once, stored}

@@ -1,6 +1,5 @@
 -- Document 01, "Most events for l split levels".
-use Rattle.std.specs.Prelude.{ℕ, suc, ◌+◌, ◌-◌, ◌*◌, ◌/◌, ◌≤◌, ◌≡◌, List, [], ◌∷◌, map, true, length}
-use Rattle.words.specs.Tests.{if◌then◌else◌}
+use Rattle.std.specs.Prelude.{ℕ, suc, ◌+◌, ◌-◌, ◌*◌, ◌/◌, ◌≤◌, ◌≡◌, List, [], ◌∷◌, map, true, length, if◌then◌else◌}
 use Rattle.words.specs.Lists.{count_from}
 use Rattle.words.specs.Pool.{list_words, events_most}
 use Rattle.node.specs.Lists.{all_below}

@@ -1,6 +1,6 @@
 -- Document 01, "Recover", with refusals 1, 2 and 6.
-use Rattle.std.specs.Prelude.{ℕ, zero, suc, ◌+◌, ◌-◌, List, [], ◌∷◌, Bool, true, not, ◌&&◌, length, leb, ltb, eqb}
-use Rattle.words.specs.Tests.{if◌then◌else◌, within}
+use Rattle.std.specs.Prelude.{ℕ, zero, suc, ◌+◌, ◌-◌, List, [], ◌∷◌, Bool, true, not, ◌&&◌, length, leb, ltb, eqb, if◌then◌else◌}
+use Rattle.words.specs.Tests.{within}
 use Rattle.words.specs.Pool.{used_at, log_at, nodes_at, pairs_at, pairs_most, list_words}
 use Rattle.words.specs.Event.{Event, at}
 use Rattle.words.specs.Blocks.{Pair}

@@ -1,8 +1,7 @@
 -- Document 01, "What the box holds": the map's rule. "Fetch answers found or absent, put new or replaced, delete removed or absent; only
 -- the key named changes."
-use Rattle.std.specs.Prelude.{ℕ, eqb}
+use Rattle.std.specs.Prelude.{ℕ, eqb, if◌then◌else◌}
 use Rattle.std.proofs.Math.Option.{Option, none, some}
-use Rattle.words.specs.Tests.{if◌then◌else◌}
 pub use Rattle.tree.specs.Map.{Map}
 use Rattle.change.specs.declared.Request.{Request}
 use Rattle.change.specs.declared.Request.TheVariants.{Put, Fetch, Delete}

@@ -1,6 +1,5 @@
 -- Document 01, "The steps of each change": what is stored to one node.
-use Rattle.std.specs.Prelude.{ℕ, ◌+◌, ◌-◌, List, [], ◌∷◌, ◌++◌, Bool, length, take, ltb, eqb}
-use Rattle.words.specs.Tests.{if◌then◌else◌}
+use Rattle.std.specs.Prelude.{ℕ, ◌+◌, ◌-◌, List, [], ◌∷◌, ◌++◌, Bool, length, take, ltb, eqb, if◌then◌else◌}
 use Rattle.words.specs.Lists.{count_from}
 use Rattle.words.specs.Blocks.{Pair}
 use Rattle.node.specs.Lists.{insert, remove}

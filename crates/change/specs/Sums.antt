@@ -1,7 +1,6 @@
 -- Document 01, "Sums done by hand": the rows marked P, as one table under one claim. What was worked out by hand stands on the left,
 -- what the definitions compute on the right.
-use Rattle.std.specs.Prelude.{ℕ, ◌≡◌, ◌⊎◌, List, [], ◌∷◌, ◌++◌, length, take, replicate, eqb}
-use Rattle.words.specs.Tests.{if◌then◌else◌}
+use Rattle.std.specs.Prelude.{ℕ, ◌≡◌, ◌⊎◌, List, [], ◌∷◌, ◌++◌, length, take, replicate, eqb, if◌then◌else◌}
 use Rattle.words.specs.Pool.{total_of, commit_at, list_words}
 use Rattle.words.specs.Kinds as k
 use Rattle.words.specs.Answers.{Said}

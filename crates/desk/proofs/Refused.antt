@@ -7,7 +7,7 @@ use mathlib.Core.Bool.{Bool, true, false, not, ◌&&◌}
 use native.Mathlib.Omega.{arith}
 use lib.ListN.{length, get_or, set}
 use lib.Dec.{ltb}
-use Rattle.words.specs.Tests.{if◌then◌else◌}
+use Rattle.std.specs.Prelude.{if◌then◌else◌}
 use Rattle.words.specs.Refusals.{number}
 use Rattle.words.specs.Carry.{after_all}
 use Rattle.words.specs.declared.refusal.Refusal.{Refusal}

@@ -6,7 +6,7 @@ use mathlib.Core.List.{List}
 use mathlib.Core.Bool.{Bool, true, false, not}
 use lib.ListN.{length}
 use lib.Dec.{ltb}
-use Rattle.words.specs.Tests.{if◌then◌else◌}
+use Rattle.std.specs.Prelude.{if◌then◌else◌}
 use Rattle.words.specs.Pool.{list_words}
 use Rattle.words.specs.Carry.{after_all}
 use Rattle.words.specs.declared.refusal.Refusal.TheVariants.{ShortList, NoDesk}

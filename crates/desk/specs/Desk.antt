@@ -1,6 +1,7 @@
 -- Document 01, "Desks": a list of desks, and which of them a turn serves. Members are numbered from 1.
 use Rattle.std.specs.Prelude.{ℕ, zero, suc, ◌-◌, List, [], ◌∷◌, ◌++◌, Bool, true, false, not, ◌&&◌, length, get_or, set, leb}
-use Rattle.words.specs.Tests.{if◌then◌else◌, within}
+use Rattle.std.specs.Prelude.{if◌then◌else◌}
+use Rattle.words.specs.Tests.{within}
 use Rattle.words.specs.Lists.{count_from}
 use Rattle.desk.specs.declared.record.Desk.{Desk}
 use Rattle.desk.specs.declared.record.Desk.TheVariants.{Empty, Holding}

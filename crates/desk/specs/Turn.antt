@@ -1,6 +1,5 @@
 -- Document 01, "Desks": what submit and turn answer, and what they leave in the desks, the pool and the list.
-use Rattle.std.specs.Prelude.{ℕ, List, [], ◌∷◌, not, length, ltb}
-use Rattle.words.specs.Tests.{if◌then◌else◌}
+use Rattle.std.specs.Prelude.{ℕ, List, [], ◌∷◌, not, length, ltb, if◌then◌else◌}
 use Rattle.words.specs.Pool.{list_words}
 use Rattle.words.specs.Carry.{after_all}
 use Rattle.words.specs.declared.refusal.Refusal.TheVariants.{ShortList, NoDesk, FullDesk}

@@ -1,7 +1,6 @@
 // The desk that a turn serves.
-ghost use Rattle.std.specs.Prelude.{◌≡◌, ◌≤◌, ◌<◌, ltb};
+ghost use Rattle.std.specs.Prelude.{◌≡◌, ◌≤◌, ◌<◌, ltb, if◌then◌else◌};
 ghost use Rattle.words.specs.Event.{at};
-ghost use Rattle.words.specs.Tests.{if◌then◌else◌};
 ghost use Rattle.desk.specs.Desk.{desks_most, may_turn, round};
 ghost use Rattle.desk.specs.inner.Parts.{noted, chosen};
 

@@ -1,6 +1,5 @@
 // A member submits a request.
-ghost use Rattle.std.specs.Prelude.{◌≡◌, ◌-◌};
-ghost use Rattle.words.specs.Tests.{if◌then◌else◌};
+ghost use Rattle.std.specs.Prelude.{◌≡◌, ◌-◌, if◌then◌else◌};
 ghost use Rattle.desk.specs.Desk.{may_submit};
 ghost use Rattle.desk.specs.Promises.{SubmitPromise};
 ghost use Rattle.desk.specs.inner.Parts.{filled};

@@ -11,7 +11,7 @@ use borrow.Author.Tests.{lt-ltb, le-ltb, le-leb, lt-leb, ltb-true, ltb-false}
 use lib.Dec.{ltb, lit<}
 use lib.ListN.{length, get_or, drop, drop_of_length-le, length-append}
 use lib.Seq.{drop-cons}
-use Rattle.words.specs.Tests.{if◌then◌else◌}
+use Rattle.std.specs.Prelude.{if◌then◌else◌}
 use Rattle.words.proofs.Tests.{within_of}
 use Rattle.line.specs.declared.numbers.Number.TheVariants.{Is, Not}
 use Rattle.line.specs.Line.{is_digit, read, number_of, digits_in, digits}

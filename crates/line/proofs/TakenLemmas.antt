@@ -9,7 +9,7 @@ use borrow.Author.Tests.{lt-ltb, le-ltb, ltb-true, ltb-false, leb-true, leb-fals
 use lib.Dec.{ltb, leb, eqb, lit≤}
 use lib.ListN.{length, take, length-append}
 use lib.Seq.{sets, sets-eq, take_all, take-append-le, take-append_seam}
-use Rattle.words.specs.Tests.{if◌then◌else◌}
+use Rattle.std.specs.Prelude.{if◌then◌else◌}
 use Rattle.line.specs.declared.parsing.Line.{Line}
 use Rattle.line.specs.declared.taking.Taker.{Taker}
 use Rattle.line.specs.Line.{line_most, meaning, newline, parts, onto, without_empty_last, lines_in}

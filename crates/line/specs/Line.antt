@@ -1,6 +1,6 @@
 -- Document 01, "A program reads lines ..": what a line means, what is printed for it, and the lines of an input.
-use Rattle.std.specs.Prelude.{ℕ, zero, suc, ◌+◌, ◌-◌, ◌*◌, ◌/◌, ◌%◌, ◌^◌, List, [], ◌∷◌, ◌++◌, Bool, ltb, leb, eqb, length}
-use Rattle.words.specs.Tests.{if◌then◌else◌, within}
+use Rattle.std.specs.Prelude.{ℕ, zero, suc, ◌+◌, ◌-◌, ◌*◌, ◌/◌, ◌%◌, ◌^◌, List, [], ◌∷◌, ◌++◌, Bool, ltb, leb, eqb, length, if◌then◌else◌}
+use Rattle.words.specs.Tests.{within}
 use Rattle.words.specs.Lists.{same}
 use Rattle.words.specs.Refusals.{number}
 use Rattle.change.specs.declared.Request.{Request}

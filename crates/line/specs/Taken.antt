@@ -1,7 +1,6 @@
 -- Lines taken byte by byte, in the room of one line.
-use Rattle.std.specs.Prelude.{ℕ, ◌+◌, min, List, [], ◌∷◌, Bool, true, false, ltb, leb, eqb, length, take, set, replicate}
+use Rattle.std.specs.Prelude.{ℕ, ◌+◌, min, List, [], ◌∷◌, Bool, true, false, ltb, leb, eqb, length, take, set, replicate, if◌then◌else◌}
 use Rattle.std.proofs.lemmas.List.Edits.{sets}
-use Rattle.words.specs.Tests.{if◌then◌else◌}
 use Rattle.line.specs.declared.parsing.Line.{Line}
 use Rattle.line.specs.declared.parsing.Line.TheVariants.{Bad}
 use Rattle.line.specs.declared.taking.Taker.{Taker}

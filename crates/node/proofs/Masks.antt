@@ -9,7 +9,7 @@ use lib.Arith.{digits_mod}
 use lib.Bits.{bit_or, or_shr, or_step, shifted_even}
 use lib.Dec.{eqb, lit<, eqb-suc-suc, eqb-suc-zero, eqb-zero-suc}
 use lib.Pow.{pow-lt}
-use Rattle.words.specs.Tests.{if◌then◌else◌}
+use Rattle.std.specs.Prelude.{if◌then◌else◌}
 use Rattle.words.proofs.Turns.{turn, over}
 use Rattle.node.specs.Lists.{has}
 use Rattle.node.specs.Slot.{byte, bytes}

@@ -9,7 +9,7 @@ use borrow.Author.Tests.{ltb-true, ltb-false, lt-ltb, le-ltb, eq-eqb, ne_eqb, eq
 use lib.Dec.{ltb, eqb}
 use lib.ListN.{length, get_or}
 use mir.Val.{bool_byte}
-use Rattle.words.specs.Tests.{if◌then◌else◌}
+use Rattle.std.specs.Prelude.{if◌then◌else◌}
 use Rattle.node.specs.Lists.{has, different, rising, below, upto}
 use Rattle.words.proofs.Tests.{both}
 use Rattle.node.proofs.Every.{every, every_weaker, every_has}

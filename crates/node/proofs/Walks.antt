@@ -9,7 +9,8 @@ use borrow.Author.Tests.{lt-ltb, le-leb, ltb-true, ltb-false, lt-leb, ne_eqb}
 use lib.Dec.{ltb, leb, eqb}
 use lib.ListN.{length, length-map}
 use mir.Val.{bool_byte}
-use Rattle.words.specs.Tests.{if◌then◌else◌, within}
+use Rattle.std.specs.Prelude.{if◌then◌else◌}
+use Rattle.words.specs.Tests.{within}
 use Rattle.words.specs.Event.{at}
 use Rattle.words.proofs.Turns.{turn, over}
 use Rattle.node.specs.Lists.{all_below, different, rising, covered, upto, last_of}

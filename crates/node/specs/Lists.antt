@@ -1,6 +1,6 @@
 -- Short lists of numbers and records: put in, taken out, all different, rising.
 use Rattle.std.specs.Prelude.{ℕ, zero, suc, ◌+◌, List, [], ◌∷◌, ◌++◌, Bool, true, false, not, ◌&&◌, ◌||◌, take, drop, ltb, leb, eqb}
-use Rattle.words.specs.Tests.{if◌then◌else◌}
+use Rattle.std.specs.Prelude.{if◌then◌else◌}
 
 -- x put in at place i, and what stands at place i taken out
 abbrev pub insert : {A : Type 0} → ℕ → A → List A → List A

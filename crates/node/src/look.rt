@@ -1,6 +1,5 @@
 // A node looked at whole, in one pass over the entries that it names: whether it is good, and where a key stands in it.
-ghost use Rattle.std.specs.Prelude.{◌≡◌, true, ltb, leb, eqb};
-ghost use Rattle.words.specs.Tests.{if◌then◌else◌};
+ghost use Rattle.std.specs.Prelude.{◌≡◌, true, ltb, leb, eqb, if◌then◌else◌};
 ghost use Rattle.words.specs.Event.{at};
 ghost use Rattle.node.specs.Lists.{upto};
 ghost use Rattle.node.specs.View as v;

@@ -7,7 +7,8 @@ use mathlib.Core.Option.{Option, none, some}
 use native.Mathlib.Omega.{arith}
 use lib.ListN.{length}
 use lib.Dec.{ltb, eqb}
-use Rattle.words.specs.Tests.{if◌then◌else◌, within}
+use Rattle.std.specs.Prelude.{if◌then◌else◌}
+use Rattle.words.specs.Tests.{within}
 use Rattle.words.specs.Pool.{list_words, capacity_most, total_of, height_most}
 use Rattle.words.specs.Refusals.{number}
 use Rattle.words.specs.Event.{Event, step, event_at}

@@ -8,7 +8,7 @@ use native.Mathlib.Omega.{arith}
 use lib.ListN.{length, take, drop, get_or, length-drop, drop_of_length-le}
 use lib.Seq.{drop-cons, length-take-le, get_or-take}
 use lib.Dec.{ltb}
-use Rattle.words.specs.Tests.{if◌then◌else◌}
+use Rattle.std.specs.Prelude.{if◌then◌else◌}
 use Rattle.words.specs.Pool.{line, used_at}
 use Rattle.words.specs.Event.{flush, at}
 use Rattle.words.specs.Blocks.{Pair, stores, stored}

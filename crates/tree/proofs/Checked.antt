@@ -8,7 +8,7 @@ use native.Mathlib.Decide.{dec_le}
 use lib.Dec.{eqb}
 use lib.ListN.{length}
 use borrow.Author.Tests.{eqb-true, eqb-false}
-use Rattle.words.specs.Tests.{if◌then◌else◌}
+use Rattle.std.specs.Prelude.{if◌then◌else◌}
 use Rattle.words.specs.Lists.{count_from}
 use Rattle.words.specs.Event.{at}
 use Rattle.words.proofs.Lists.{length_from}

@@ -9,7 +9,7 @@ use native.Mathlib.Omega.{arith}
 use lib.Dec.{ltb, eqb}
 use lib.ListN.{get_or, set}
 use borrow.Author.Tests.{le-ltb, ne_eqb, eqb-true, ltb-true}
-use Rattle.words.specs.Tests.{if◌then◌else◌}
+use Rattle.std.specs.Prelude.{if◌then◌else◌}
 use Rattle.words.proofs.Tests.{differ}
 use Rattle.node.specs.Lists.{insert, remove, has, rising, below}
 use Rattle.node.specs.View.{Record, keys}

@@ -5,7 +5,8 @@ use mathlib.Core.List.{List, [], ◌∷◌}
 use mathlib.Core.Bool.{Bool, true, false, not}
 use native.Mathlib.Omega.{arith}
 use lib.ListN.{length}
-use Rattle.words.specs.Tests.{if◌then◌else◌, within}
+use Rattle.std.specs.Prelude.{if◌then◌else◌}
+use Rattle.words.specs.Tests.{within}
 use Rattle.node.specs.View.{view}
 use Rattle.tree.specs.Header.{used_of, counts_agree}
 use Rattle.tree.specs.Kids.{Kid, pick, root_kid, leaf_least, inner_least, fits}

@@ -6,7 +6,7 @@ use mathlib.Core.Bool.{Bool, true, false, not}
 use native.Mathlib.Omega.{arith}
 use native.Mathlib.Decide.{dec_le}
 use lib.ListN.{length, length-append}
-use Rattle.words.specs.Tests.{if◌then◌else◌}
+use Rattle.std.specs.Prelude.{if◌then◌else◌}
 use Rattle.node.specs.View.{view}
 use Rattle.tree.specs.Header.{used_of}
 use Rattle.tree.specs.Kids.{Kid, fits, leaf_least, below_root_least}

@@ -1,6 +1,7 @@
 -- Document 01, "Check": the walk over the whole pool from left to right, its faults in their order, and the marks it leaves.
 use Rattle.std.specs.Prelude.{ℕ, zero, suc, ◌+◌, ◌-◌, List, [], ◌∷◌, ◌++◌, Bool, not, ◌&&◌, ◌||◌, length, set, drop, replicate, eqb}
-use Rattle.words.specs.Tests.{if◌then◌else◌, within}
+use Rattle.std.specs.Prelude.{if◌then◌else◌}
+use Rattle.words.specs.Tests.{within}
 use Rattle.words.specs.Event.{at}
 use Rattle.node.specs.View.{View, view, link_at}
 use Rattle.tree.specs.Header.{capacity_of, used_of}

@@ -1,6 +1,5 @@
 -- Document 01, "Words and counts": the children of a node and what each covers.
-use Rattle.std.specs.Prelude.{ℕ, List, [], ◌∷◌, Bool, ltb}
-use Rattle.words.specs.Tests.{if◌then◌else◌}
+use Rattle.std.specs.Prelude.{ℕ, List, [], ◌∷◌, Bool, ltb, if◌then◌else◌}
 use Rattle.node.specs.View.{Record, View, good, no_end}
 use Rattle.tree.specs.Header.{root_of}
 

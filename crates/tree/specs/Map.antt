@@ -1,7 +1,6 @@
 -- Document 01, "What the box holds": "A pool is a map from 64-bit keys to 64-bit values".
-use Rattle.std.specs.Prelude.{ℕ, List, [], ◌∷◌, eqb}
+use Rattle.std.specs.Prelude.{ℕ, List, [], ◌∷◌, eqb, if◌then◌else◌}
 use Rattle.std.proofs.Math.Option.{Option, none, some}
-use Rattle.words.specs.Tests.{if◌then◌else◌}
 use Rattle.node.specs.View.{Record, view}
 use Rattle.tree.specs.Kids.{root_kid}
 use Rattle.tree.specs.Path.{levels_above}

@@ -1,6 +1,6 @@
 -- The way down from the root to the leaf of a key, with each test of refusal 4, and where it failed.
-use Rattle.std.specs.Prelude.{ℕ, zero, suc, ◌-◌, List, [], ◌∷◌, not}
-use Rattle.words.specs.Tests.{if◌then◌else◌, within}
+use Rattle.std.specs.Prelude.{ℕ, zero, suc, ◌-◌, List, [], ◌∷◌, not, if◌then◌else◌}
+use Rattle.words.specs.Tests.{within}
 use Rattle.node.specs.View.{view}
 use Rattle.tree.specs.Header.{used_of, height_of, counts_agree}
 use Rattle.tree.specs.Kids.{Kid, pick, root_kid, leaf_least, inner_least, fits}

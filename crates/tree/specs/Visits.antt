@@ -1,6 +1,5 @@
 -- Which numbers the whole-pool check comes to: one for each time that it calls for a node. None is looked at twice.
-use Rattle.std.specs.Prelude.{ℕ, zero, suc, ◌+◌, ◌-◌, ◌≤◌, ◌≡◌, List, [], ◌∷◌, ◌++◌, not, length}
-use Rattle.words.specs.Tests.{if◌then◌else◌}
+use Rattle.std.specs.Prelude.{ℕ, zero, suc, ◌+◌, ◌-◌, ◌≤◌, ◌≡◌, List, [], ◌∷◌, ◌++◌, not, length, if◌then◌else◌}
 use Rattle.words.specs.Event.{at}
 use Rattle.node.specs.View.{view}
 use Rattle.tree.specs.Header.{used_of}

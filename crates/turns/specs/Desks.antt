@@ -1,6 +1,5 @@
 -- Desks as records: each is a kind, a key and a value, document 01's "lent list of records, one for each member".
-use Rattle.std.specs.Prelude.{ℕ, zero, suc, List, [], ◌∷◌, map, length, set, eqb}
-use Rattle.words.specs.Tests.{if◌then◌else◌}
+use Rattle.std.specs.Prelude.{ℕ, zero, suc, List, [], ◌∷◌, map, length, set, eqb, if◌then◌else◌}
 use Rattle.words.specs.Event.{at}
 use Rattle.change.specs.declared.Request.{Request}
 use Rattle.change.specs.declared.Request.TheVariants.{Put, Fetch, Delete}

@@ -7,7 +7,7 @@ use native.Mathlib.Omega.{arith}
 use lib.Dec.{eqb}
 use lib.ListN.{length, length-append, length-replicate}
 use borrow.Author.Tests.{lt-ltb, le-ltb, eq-eqb, ne_eqb}
-use Rattle.words.specs.Tests.{if◌then◌else◌}
+use Rattle.std.specs.Prelude.{if◌then◌else◌}
 use Rattle.words.specs.Pool.{words_least}
 use Rattle.words.specs.Event.{at}
 use Rattle.words.specs.declared.refusal.Refusal.TheVariants.{NoPool, Unfinished, Damaged, ShortMarks}

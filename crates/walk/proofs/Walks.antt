@@ -9,7 +9,8 @@ use native.Mathlib.Numerals.{sub-one}
 use borrow.Author.Tests.{not-true, not-false, eqb-true}
 use lib.Dec.{eqb, lit≤}
 use lib.ListN.{length, take, length-set}
-use Rattle.words.specs.Tests.{if◌then◌else◌, within}
+use Rattle.std.specs.Prelude.{if◌then◌else◌}
+use Rattle.words.specs.Tests.{within}
 use Rattle.words.specs.Event.{at}
 use Rattle.words.proofs.Tests.{both, within_says}
 use Rattle.node.specs.Slot.{byte, count, names, entries}

@@ -7,7 +7,7 @@ use mathlib.Core.List.{List, [], ◌∷◌, ◌++◌}
 use lib.ListN.{length, length-append}
 use native.Mathlib.Omega.{arith}
 use Rattle.words.specs.Pool.{line}
-use Rattle.words.specs.Tests.{if◌then◌else◌}
+use Rattle.std.specs.Prelude.{if◌then◌else◌}
 use Rattle.words.specs.Event.{Event, store, flush, fence, run}
 use Rattle.words.specs.Blocks.{Pair, once, stores, flushes, lines, stored, replay}
 use Rattle.words.specs.Loss.{IsFlush, IsFence, Some, Kept}

@@ -6,7 +6,8 @@ use mathlib.Core.Bool.{Bool, true, false, ◌&&◌}
 use native.Mathlib.Omega.{arith}
 use lib.Dec.{T, leb, eqb}
 use borrow.Author.Tests.{leb-true, le-leb, eqb-true, eqb-false}
-use Rattle.words.specs.Tests.{if◌then◌else◌, within}
+use Rattle.std.specs.Prelude.{if◌then◌else◌}
+use Rattle.words.specs.Tests.{within}
 
 -- both parts of a joined test pass
 pub both : {a b : Bool} → (a && b) ≡ true → (a ≡ true) × (b ≡ true)

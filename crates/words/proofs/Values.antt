@@ -12,7 +12,7 @@ use mathlib.Core.List.{Memᴰ as In}
 use lib.ListN.{length, set, take, drop}
 use lib.Seq.{get_or-set_same, get_or-set_other}
 use lib.Dec.{eqb}
-use Rattle.words.specs.Tests.{if◌then◌else◌}
+use Rattle.std.specs.Prelude.{if◌then◌else◌}
 use Rattle.words.specs.Pool.{line}
 use Rattle.words.specs.Event.{Event, store, flush, fence, at, step}
 use Rattle.words.specs.Loss.{IsStore, Some, Kept, MayHold}

@@ -1,6 +1,5 @@
 -- The runs of events that the steps of every change are made of.
-use Rattle.std.specs.Prelude.{ℕ, List, [], ◌∷◌, ◌++◌, eqb}
-use Rattle.words.specs.Tests.{if◌then◌else◌}
+use Rattle.std.specs.Prelude.{ℕ, List, [], ◌∷◌, ◌++◌, eqb, if◌then◌else◌}
 use Rattle.words.specs.Pool.{line}
 use Rattle.words.specs.Event.{Event, store, flush, fence}
 

@@ -1,7 +1,6 @@
 -- What carrying out one event answers and leaves: refusal 12 of document 01; and its promise.
-use Rattle.std.specs.Prelude.{ℕ, zero, suc, ◌*◌, ◌≡◌, List, Bool, true, length, ltb}
+use Rattle.std.specs.Prelude.{ℕ, zero, suc, ◌*◌, ◌≡◌, List, Bool, true, length, ltb, if◌then◌else◌}
 use Rattle.std.proofs.Math.Option.{Option, none, some}
-use Rattle.words.specs.Tests.{if◌then◌else◌}
 use Rattle.words.specs.Pool.{line_words}
 use Rattle.words.specs.Event.{Event, store, flush, fence, step, event_at}
 use Rattle.words.specs.declared.refusal.Refusal.TheVariants.{NoEvent}

@@ -1,7 +1,7 @@
 -- Document 01, "Events and the rule of loss": an event, its two words in the list, and what carrying it out does.
-use Rattle.std.specs.Prelude.{ℕ, ◌+◌, ◌-◌, ◌*◌, ◌/◌, ◌%◌, ◌^◌, List, [], ◌∷◌, length, get_or, set, eqb}
+use Rattle.std.specs.Prelude.{ℕ, ◌+◌, ◌-◌, ◌*◌, ◌/◌, ◌%◌, ◌^◌, List, [], ◌∷◌, length, get_or, set, eqb, if◌then◌else◌}
 use Rattle.std.proofs.Math.Option.{Option, none, some}
-use Rattle.words.specs.Tests.{if◌then◌else◌, within}
+use Rattle.words.specs.Tests.{within}
 
 -- a store of a value to a word, a flush of a line, a fence
 pub data Event : Type 0 where

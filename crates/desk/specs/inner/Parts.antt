@@ -1,6 +1,5 @@
 -- What the functions under submit and turn do. The promises of submit and turn do not rest on these.
-use Rattle.std.specs.Prelude.{ℕ, List, not, ◌&&◌, length}
-use Rattle.words.specs.Tests.{if◌then◌else◌}
+use Rattle.std.specs.Prelude.{ℕ, List, not, ◌&&◌, length, if◌then◌else◌}
 use Rattle.words.specs.declared.refusal.Refusal.TheVariants.{FullDesk}
 use Rattle.change.specs.declared.Request.{Request}
 use Rattle.desk.specs.declared.record.Desk.{Desk}

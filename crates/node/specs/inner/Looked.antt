@@ -1,6 +1,5 @@
 -- What looking at a node asks and answers.
-use Rattle.std.specs.Prelude.{ℕ, ◌+◌, ◌≤◌, ◌≡◌, List, Bool, true, ◌&&◌, length, ltb, eqb}
-use Rattle.words.specs.Tests.{if◌then◌else◌}
+use Rattle.std.specs.Prelude.{ℕ, ◌+◌, ◌≤◌, ◌≡◌, List, Bool, true, ◌&&◌, length, ltb, eqb, if◌then◌else◌}
 use Rattle.words.specs.Pool.{node_at, node_words, capacity_most}
 use Rattle.node.specs.Lists.{has, upto, last_of}
 use Rattle.node.specs.View.{View, keys, rank, good, no_end}

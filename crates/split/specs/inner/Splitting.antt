@@ -1,6 +1,5 @@
 -- What the planning of a split hands on from call to call.
-use Rattle.std.specs.Prelude.{ℕ, ◌+◌, ◌-◌, ◌*◌, ◌≤◌, ◌<◌, ◌≡◌, List, [], ◌∷◌, ◌++◌, true, length, take, drop, get_or, ltb}
-use Rattle.words.specs.Tests.{if◌then◌else◌}
+use Rattle.std.specs.Prelude.{ℕ, ◌+◌, ◌-◌, ◌*◌, ◌≤◌, ◌<◌, ◌≡◌, List, [], ◌∷◌, ◌++◌, true, length, take, drop, get_or, ltb, if◌then◌else◌}
 use Rattle.words.specs.Pool as p
 use Rattle.words.specs.Event.{at, top_byte}
 use Rattle.words.specs.Blocks.{Pair, stored}

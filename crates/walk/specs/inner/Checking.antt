@@ -1,6 +1,5 @@
 -- What the parts of the whole-pool check ask and answer, in the words of the walk of `tree`.
-use Rattle.std.specs.Prelude.{ℕ, ◌+◌, ◌*◌, ◌≤◌, ◌≡◌, List, Bool, true, not, length, take, drop}
-use Rattle.words.specs.Tests.{if◌then◌else◌}
+use Rattle.std.specs.Prelude.{ℕ, ◌+◌, ◌*◌, ◌≤◌, ◌≡◌, List, Bool, true, not, length, take, drop, if◌then◌else◌}
 use Rattle.words.specs.Pool.{capacity_most, total_of}
 use Rattle.words.specs.Event.{at}
 use Rattle.node.specs.Lists.{all_below}

@@ -4,7 +4,7 @@ use mathlib.Core.Path.{◌≡◌, refl}
 use native.Mathlib.Omega.{arith}
 use lib.ListN.{length}
 use Rattle.words.specs.Event.{at}
-use Rattle.words.specs.Tests.{if◌then◌else◌}
+use Rattle.std.specs.Prelude.{if◌then◌else◌}
 use Rattle.desk.specs.Desk.{desks_most, may_turn, round}
 use Rattle.desk.proofs.Bounds.{looked_bounds}
 use Rattle.desk.proofs.Looking.{all_looked, is_member, one_more, at_end}

@@ -2,7 +2,7 @@
 use Prim.Native.Nat.{ℕ, zero, suc, ◌≤◌, ◌<◌}
 use mathlib.Core.Path.{◌≡◌}
 use native.Mathlib.Omega.{arith}
-use Rattle.words.specs.Tests.{if◌then◌else◌}
+use Rattle.std.specs.Prelude.{if◌then◌else◌}
 use Rattle.desk.specs.Desk.{desks_most, may_turn}
 use Rattle.desk.proofs.Bounds.{may_turn_true, turn_may, where_true, where_false}
 use Rattle.desk.proofs.choosing.looked_at.Goals as goal

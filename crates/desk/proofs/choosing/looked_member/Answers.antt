@@ -3,7 +3,7 @@ use Prim.Native.Nat.{◌<◌}
 use mathlib.Core.Path.{◌∙◌}
 use native.Mathlib.Omega.{arith}
 use borrow.Author.Tests.{le-ltb, lt-ltb}
-use Rattle.words.specs.Tests.{if◌then◌else◌}
+use Rattle.std.specs.Prelude.{if◌then◌else◌}
 use Rattle.desk.specs.Desk.{may_turn}
 use Rattle.desk.proofs.Bounds.{looked_bounds}
 use Rattle.desk.proofs.choosing.looked_member.Goals as goal

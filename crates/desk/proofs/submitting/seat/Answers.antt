@@ -2,7 +2,7 @@
 use Prim.Native.Nat.{ℕ, ◌-◌, ◌≤◌, ◌<◌}
 use mathlib.Core.Path.{◌≡◌}
 use native.Mathlib.Omega.{arith}
-use Rattle.words.specs.Tests.{if◌then◌else◌}
+use Rattle.std.specs.Prelude.{if◌then◌else◌}
 use Rattle.desk.specs.Desk.{desks_most, may_submit}
 use Rattle.desk.proofs.Bounds.{may_submit_true, submit_may, where_true, where_false}
 use Rattle.desk.proofs.submitting.seat.Goals as goal
