@@ -108,7 +108,8 @@ module _ (rs : List (List ℕ)) (last : ℕ) where
     as_desks = rw (length-map rs desk_of) so_far
 
     pub one_more : (j : ℕ) (x : Desk) (found' : Chosen) → k < (if may_turn (length rs) last then length rs else 0)
-        → j ≡ at (round (length rs) last) k → x ≡ desk_of (get_or rs (j - 1) []) → found' ≡ noted found j x → Chooses rs last (k + 1) found'
+        → j ≡ at (round (length rs) last) k → x ≡ desk_of (get_or rs (j - 1) []) → found' ≡ noted found j x
+        → Chooses rs last (k + 1) found'
     one_more j x found' h e f g =
         let h' : k < (if may_turn (length (desks_of rs)) last then length (desks_of rs) else 0) = rw (length-map rs desk_of) h in
         let e' : j ≡ at (round (length (desks_of rs)) last) k = rw (length-map rs desk_of) e in

@@ -17,8 +17,8 @@ use Rattle.words.proofs.carry_all.Reads as carry_all_reads
 pub record Tight (n : ℕ) (ps : List (ParamKind n)) (k : ResultKind n) {B : Type 0} (asked : In n ps) (learnt : Out n ps k)
     (left : (κs : Lfts n) → AtExit (ended_of n ps k) κs → B) : Type 0 where
   pub free : (κs : Lfts n) (a : Dens κs ps) → asked κs a
-  pub one : (κs : Lfts n) (a : Dens κs ps) (r s : (res_t k κs).Denot) (x y : AtExit (ended_of n ps k) κs) → learnt κs a r x → learnt κs a s y
-      → (r ≡ s) × (left κs x ≡ left κs y)
+  pub one : (κs : Lfts n) (a : Dens κs ps) (r s : (res_t k κs).Denot) (x y : AtExit (ended_of n ps k) κs)
+      → learnt κs a r x → learnt κs a s y → (r ≡ s) × (left κs x ≡ left κs y)
 
 pub carry_out_tight : Tight 2 carry_out.ps carry_out.r carry_out_reads.Asked carry_out_reads.Learnt (λ κs x. x.0.now)
 carry_out_tight = record { free = λ κs a. tt; one = λ κs a r s x y. one_outcome carried_told }
