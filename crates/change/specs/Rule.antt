@@ -19,8 +19,8 @@ changed key o f q = if eqb q key then o else f q
 
 -- one outcome where the key is absent, another where it is present
 abbrev pub by_presence : Outcome → Outcome → Option ℕ → Outcome
-by_presence absent present none = absent
-by_presence absent present (some value) = present
+by_presence missing present none = missing
+by_presence missing present (some value) = present
 
 -- the outcome of a request, and the map after it
 abbrev pub rule : Request → Map → Outcome × Map
