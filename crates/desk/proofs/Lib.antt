@@ -1,4 +1,4 @@
--- Laws of desks and turns, the walks over desk records, and the proof of demand 3.
+-- Laws of desks and turns, and the proof of demand 3.
 pub mod Answers
 pub mod Bounds
 pub mod Round

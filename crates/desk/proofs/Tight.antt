@@ -39,7 +39,7 @@ use Rattle.desk.proofs.looked_member.Reads as looked_member_reads
 use Rattle.desk.proofs.note.Kinds as note
 use Rattle.desk.proofs.note.Reads as note_reads
 
--- submit, turn and plan_turn are walked by hand: in every model the contract asks nothing, and ensures the promise and that alone ..
+-- of submit, turn and plan_turn: in every model the contract asks nothing, and ensures the promise and that alone ..
 module _ {M : Type 1} {𝓤 : Ura M} (𝓛 : Logic 𝓤) (mem : Memory → SProp 𝓤) (run : Routine → Fun 𝓤) where
   pub submit_requires : (κs : Lfts 1) (a : Args submit.signature κs) → (submit.spec 𝓛 mem run κs a).requires tt ≡ emp 𝓤
   submit_requires κs a = refl

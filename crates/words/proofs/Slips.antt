@@ -64,9 +64,9 @@ numbers = refl
 abbrev CaseAlone : List ℕ → List ℕ → ℕ → Carried → List ℕ → Type 0
 CaseAlone m l n r m' = ((carried_says r).0 ≡ (carried_says (carried m (event_at l n))).0) × (m' ≡ after m (event_at l n))
 
-pub case-alone :
+pub case_alone :
     CaseAlone [] [] 1 (Refused NoEvent) [] × CaseAlone [] [] 1 (Refused NoRoom) [] × (Refused NoEvent ≢ Refused NoRoom)
-case-alone =
+case_alone =
     ((refl, refl), (refl, refl), λ e. let h : number NoEvent ≡ number NoRoom = ap (λ (r : Carried). (carried_says r).1) e in omega arith)
 
 -- answers of which Done and refusal 12 say the same
