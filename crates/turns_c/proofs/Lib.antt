@@ -1,0 +1,2 @@
+-- That the contract of each export leaves no choice.
+pub mod Tight
