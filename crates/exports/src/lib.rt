@@ -1,4 +1,4 @@
-// The calls on a pool for programs in Rust and C: a slice is a pointer and a length, an answer is a struct of words.
+// The calls on a pool as `exports_c` hands them on to Rust and C: an answer is a struct of words.
 #![tactic(auto)]
 
 mod calls;

@@ -1,5 +1,4 @@
-// The calls on lent desks for programs in Rust and C, in an archive of their own: compiled apart from the calls on a pool, neither has to
-// share its copy of these with the other.
+// The calls on lent desks as `turns_c` hands them on to Rust and C: a desk and an answer are records of words.
 #![tactic(auto)]
 
 mod desks;

@@ -1,5 +1,6 @@
 // The archive of the calls on lent desks, for programs in Rust and C. Each export is the call of that name of `turns`, with its promise:
-// a slice is a pointer and a length, an answer is a struct of words.
+// a slice is a pointer and a length, an answer is a struct of words. It is an archive of its own: compiled apart from the calls on a
+// pool, neither has to share its copy of these with the other.
 #![tactic(auto)]
 
 ghost use Rattle.change.specs.declared.Request.TheVariants.{Put, Fetch, Delete};
