@@ -13,6 +13,7 @@ ghost use Rattle.std.specs.Prelude.{◌≤◌};
 
 use report::{Want, tell};
 use std::io;
+use std::process::ExitCode;
 use trials::asking::CAPACITY;
 use trials::rows::{Part, Row, play};
 
@@ -139,11 +140,19 @@ fn deletes(rt: &impl Print) -> io::Result<()> {
     )
 }
 
-fn main(rt: HostRuntime) -> io::Result<()> {
-    desks::tell_desks(&rt)?;
-    leaves(&rt)?;
-    splits(&rt)?;
-    trees(&rt)?;
-    full_pools(&rt)?;
-    deletes(&rt)
+fn tell_all(rt: &impl Print) -> io::Result<()> {
+    desks::tell_desks(rt)?;
+    leaves(rt)?;
+    splits(rt)?;
+    trees(rt)?;
+    full_pools(rt)?;
+    deletes(rt)
+}
+
+// Where it cannot print, the status alone tells of it.
+fn main(rt: HostRuntime) -> ExitCode {
+    if tell_all(&rt).is_ok() {
+        return ExitCode::SUCCESS;
+    }
+    ExitCode::FAILURE
 }
