@@ -89,11 +89,11 @@ recover_kept room m l = kept _ l (quiet_recover room m)
 
 -- an answer's outcome is that of its plan
 pub outcome_answered : (p : Planned Outcome) → outcome_of (answered p) ≡ p.answer
-outcome_answered p = go p.answer
+outcome_answered p = go p.answer _
   where
-    go : (o : Result Outcome Refusal) → outcome_of (with_count o (length p.events)) ≡ o
-    go (Ok o) = refl
-    go (Err why) = refl
+    go : (o : Result Outcome Refusal) (n : ℕ) → outcome_of (with_count o n) ≡ o
+    go (Ok o) n = refl
+    go (Err why) n = refl
 
 pub serve_kept : (m l : List ℕ) (q : Request) (why : Refusal) → serve_answer m l q ≡ Err why
     → (events_of (serve_answer m l q) ≡ 0) × (serve_list m l q ≡ l)

@@ -37,7 +37,7 @@ use Rattle.change.proofs.Pairs.{within_weaken}
 use Rattle.change.proofs.Counts.{finished_count}
 use Rattle.change.proofs.Goes.{Goes, AllGo, go_stores, log_goes}
 use Rattle.change.proofs.Recover.{replaying, recovery_clean, recover_clean, finished_redo, Storable, AllStorable}
-use Rattle.change.proofs.Recover.{replaying, storable_off, log_same, recover_logged}
+use Rattle.change.proofs.Recover.{storable_off, log_same, recover_logged}
 
 -- events that store, and flush, under n alone
 abbrev pub Under : ℕ → List Event → Type 0
