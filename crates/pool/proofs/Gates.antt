@@ -9,10 +9,8 @@ use Rattle.words.specs.declared.refusal.Refusal.{Refusal}
 use Rattle.words.specs.declared.refusal.Refusal.TheVariants.{ShortList, NoPool, Unfinished, Damaged}
 use Rattle.tree.specs.Header.{commit_of, form_agrees}
 use Rattle.tree.specs.Path.{failed, way_to}
-use Rattle.tree.specs.inner.Descended.{above_of, Descended}
+use Rattle.tree.specs.inner.Descended.{above_of, Seated}
 use Rattle.tree.specs.declared.descend.Seat.{Seat}
-use Rattle.tree.specs.declared.descend.Descent.{Descent}
-use Rattle.tree.specs.declared.descend.Descent.TheVariants.{Fault, Leaf}
 use Rattle.tree.proofs.Leaves.{AtLeaf, at_leaf as leaf_found}
 use Rattle.change.specs.declared.Outcome.{Outcome}
 use Rattle.change.specs.Gate.{Planned, refused, past_list, past_form, past_gate, at_leaf}
@@ -44,14 +42,12 @@ module _ {A : Type 0} (refuse : Refusal → A) (body : A) where
     gate_open f z = rw (f, eq-eqb (commit_of m) 0 z)
 
 -- the way down found no leaf: 4, whatever is done at one; or it found the leaf
-module _ (m : List ℕ) (key : ℕ) (f : form_agrees m ≡ true) (z : commit_of m ≡ 0) {d : Descent} (w : Descended m key d) where
-  pub gate_damaged : {node : ℕ} → d ≡ Fault node → Gated m key (Refused Damaged)
-  gate_damaged e body =
-      let none : way_to m key ≡ failed _ = rw e at w in
-      gate_open refused (at_leaf body (way_to m key)) m f z ∙ ap (at_leaf body) none
+module _ (m : List ℕ) (key : ℕ) (f : form_agrees m ≡ true) (z : commit_of m ≡ 0) where
+  pub gate_damaged : {node : ℕ} → way_to m key ≡ failed node → Gated m key (Refused Damaged)
+  gate_damaged none body = gate_open refused (at_leaf body (way_to m key)) m f z ∙ ap (at_leaf body) none
 
-  pub gate_passed : {s : Seat} → d ≡ Leaf s → Gated m key (Passed s)
-  gate_passed e = record { form_is = f; finished = z; seated = rw e at w }
+  pub gate_passed : {s : Seat} → Seated m key s → Gated m key (Passed s)
+  gate_passed w = record { form_is = f; finished = z; seated = w }
 
 -- what a gate told
 module _ (m : List ℕ) (key : ℕ) {g : Gate} (p : Gated m key g) where

@@ -1,7 +1,7 @@
 // What stands before every call on a key: refusals 2, 3 and 4, and the way down to the key's leaf.
 ghost use Rattle.pool.specs.inner.Passing.{Gated};
 
-use tree::descend::{Descent, Seat, descend};
+use tree::descend::{Seat, descend};
 use tree::header::form_agrees;
 use words::{Pool, Refusal};
 
@@ -23,9 +23,8 @@ pub fn pass_gate(pool: &[u64], key: u64) -> Gate
     if pool[Pool::COMMIT_AT as usize] != 0 {
         return Gate::Refused(Refusal::Unfinished);
     }
-    let way = descend(pool, key);
-    match way {
-        Descent::Fault(_) => Gate::Refused(Refusal::Damaged),
-        Descent::Leaf(seat) => Gate::Passed(seat),
+    match descend(pool, key) {
+        Err(_) => Gate::Refused(Refusal::Damaged),
+        Ok(seat) => Gate::Passed(seat),
     }
 }

@@ -19,7 +19,7 @@ pub fn path_to(pool: &[u64], key: u64) -> [u64; 8]
     while 0 < left {
         path[left as usize] = node;
         let slot = slot_word(pool, node);
-        let seen = look(pool, node, slot, 0, 0, key);
+        let seen = look(pool, node, slot, 0, 0, key).unwrap();
         node = child(pool, node, slot, seen.after);
         left -= 1;
     }

@@ -21,17 +21,17 @@ returns-then-pool-ne0 c =
     let is_pool : form_agrees c.args.pool.now ≡ true = sym c.form_agrees.ensures ∙ c.if-not-form_agrees.false in
     λ body. gate_unfinished refused _ _ is_pool c.if-pool-ne0.true
 
-pub descend-way-requires : goal.descend-way-requires
-descend-way-requires c =
+pub descend-requires : goal.descend-requires
+descend-requires c =
     let is_pool : form_agrees c.args.pool.now ≡ true = sym c.form_agrees.ensures ∙ c.if-not-form_agrees.false in
     is_pool
 
-pub returns-in-Fault : goal.returns-in-Fault
-returns-in-Fault c =
+pub returns-in-Err : goal.returns-in-Err
+returns-in-Err c =
     let is_pool : form_agrees c.args.pool.now ≡ true = sym c.form_agrees.ensures ∙ c.if-not-form_agrees.false in
-    gate_damaged _ _ is_pool c.if-pool-ne0.false c.descend-way.ensures c.in-Fault.is
+    gate_damaged _ _ is_pool c.if-pool-ne0.false c.in-Err.ensures
 
-pub returns-in-Leaf : goal.returns-in-Leaf
-returns-in-Leaf c =
+pub returns-in-Ok : goal.returns-in-Ok
+returns-in-Ok c =
     let is_pool : form_agrees c.args.pool.now ≡ true = sym c.form_agrees.ensures ∙ c.if-not-form_agrees.false in
-    gate_passed _ _ is_pool c.if-pool-ne0.false c.descend-way.ensures c.in-Leaf.is
+    gate_passed _ _ is_pool c.if-pool-ne0.false c.in-Ok.ensures

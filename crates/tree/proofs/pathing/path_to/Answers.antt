@@ -37,11 +37,14 @@ slot_word-slot-requires c =
     = c.loop-left.invariant c.requires.1 in
     lies_inside _ _ _ on_of c.loop-left-test.true c.requires.0
 
-pub look-seen-requires : goal.look-seen-requires
-look-seen-requires c =
+pub look-requires : goal.look-requires
+look-requires c =
     let on_of : On c.args.pool.now c.args.key c.requires.1 c.loop-left.node c.loop-left.left c.loop-left.path
     = c.loop-left.invariant c.requires.1 in
     (lies_inside _ _ _ on_of c.loop-left-test.true c.requires.0, c.slot_word-slot.ensures)
+
+pub unwrap-seen-requires : goal.unwrap-seen-requires
+unwrap-seen-requires c = found_good _ _ _ (c.loop-left.invariant c.requires.1) c.loop-left-test.true _ c.look.ensures
 
 pub child-node-requires : goal.child-node-requires
 child-node-requires c =
@@ -50,7 +53,7 @@ child-node-requires c =
     let o = on_of in
     let inside = lies_inside _ _ _ o c.loop-left-test.true c.requires.0 in (
       good_named (good_here _ _ _ o c.loop-left-test.true) inside c.slot_word-slot.ensures,
-      few_before _ _ c.look-seen.ensures (found_good _ _ _ o c.loop-left-test.true c.look-seen.ensures) c.slot_word-slot.ensures,
+      few_before _ _ (rw c.unwrap-seen.ensures at c.look.ensures) c.slot_word-slot.ensures,
     )
 
 pub overflow_sub-left-in-loop-left : goal.overflow_sub-left-in-loop-left
@@ -61,7 +64,7 @@ loop-left-smaller c = let h = c.loop-left-test.true in omega arith
 
 pub loop-left-preserved : goal.loop-left-preserved
 loop-left-preserved c =
-    λ r. go_down _ _ r (c.loop-left.invariant r) c.loop-left-test.true c.look-seen.ensures c.child-node.ensures
+    λ r. go_down _ _ r (c.loop-left.invariant r) c.loop-left-test.true (rw c.unwrap-seen.ensures at c.look.ensures) c.child-node.ensures
 
 pub returns : goal.returns
 returns c =
