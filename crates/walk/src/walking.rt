@@ -34,30 +34,22 @@ impl Kid {
     fn until(self, key: u64) -> Kid
         ensures { kid_of result ≡ kid self.number self.cover.lo key }
     {
-        let cover = self.cover;
-        Kid {
-            number: self.number,
-            cover: Cover {
-                lo: cover.lo,
-                hi: key,
-                open: false,
-            },
-        }
+        let cover = Cover {
+            hi: Some(key),
+            ..self.cover
+        };
+        Kid { cover, ..self }
     }
 
     // The next child: from the key on, as far as this one went.
     fn next(self, key: u64, number: u64) -> Kid
         ensures { kid_of result ≡ kid number key (end_of self.cover) }
     {
-        let cover = self.cover;
-        Kid {
-            number,
-            cover: Cover {
-                lo: key,
-                hi: cover.hi,
-                open: cover.open,
-            },
-        }
+        let cover = Cover {
+            lo: key,
+            ..self.cover
+        };
+        Kid { number, cover }
     }
 }
 
@@ -235,8 +227,7 @@ pub fn check_tree(pool: &[u64], marks: &mut [u8]) -> Checked
         number: pool[Pool::ROOT_AT as usize],
         cover: Cover {
             lo: 0,
-            hi: 0,
-            open: true,
+            hi: None,
         },
     };
     let none = Seen {
