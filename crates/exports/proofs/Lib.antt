@@ -1,3 +1,2 @@
--- Each exported call allows one outcome.
-pub mod Tight
+-- A slip in a reply.
 pub mod Slips

@@ -1,11 +1,5 @@
-// The calls on a pool as `exports_c` hands them on to Rust and C: an answer is a struct of words.
+// What the calls for Rust and C answer: a struct of words for each answer. The archives `exports_c` and `turns_c` have the calls.
 #![tactic(auto)]
 
-mod calls;
 pub mod replies;
 pub mod reply;
-
-pub use calls::{
-    ombykape_carry_all, ombykape_carry_out, ombykape_check, ombykape_delete, ombykape_fetch,
-    ombykape_format, ombykape_put, ombykape_recover,
-};

@@ -1,4 +1,5 @@
--- The contracts of the exports themselves leave no choice, as those of the calls that they hand on to (`exports/proofs/Tight.antt`).
+-- "The team proves that two outcomes allowed by the promise coincide": of each contract itself. Of two lent slices the second is the one
+-- that may change, but of carrying out the first. Fetch is lent nothing to change.
 use mathlib.Core.Path.{refl, sym, ◌∙◌}
 use Rattle.words.proofs.Answers.{both_given}
 use Rattle.words.proofs.Tight.{Tight}

@@ -1,59 +1,59 @@
-// The archive of the calls on a pool, for programs in Rust and C. Each export is the call of that name of `exports`, with its promise: a
-// slice is a pointer and a length, an answer is a struct of words.
+// The archive of the calls on a pool, for programs in Rust and C: a slice is a pointer and a length, an answer is a struct of words.
 #![tactic(auto)]
 
 ghost use Rattle.words.specs.Carry.{CarryAllPromise};
 ghost use Rattle.exports.specs.Promises as p;
 
+use exports::replies::{carried_reply, format_reply, outcome_reply};
 use exports::reply::{Reply, Verdict};
 
 #[unsafe(no_mangle)]
 pub extern "C" fn ombykape_format(pool: &[u64], list: &mut [u64], capacity: u64) -> Reply
     ensures { p.FormatPromise pool.now list.old capacity result list.new }
 {
-    exports::ombykape_format(pool, list, capacity)
+    format_reply(pool::format(pool, list, capacity))
 }
 
 #[unsafe(no_mangle)]
 pub extern "C" fn ombykape_recover(pool: &[u64], list: &mut [u64]) -> Reply
     ensures { p.RecoverPromise pool.now list.old result list.new }
 {
-    exports::ombykape_recover(pool, list)
+    Reply::from(pool::recover(pool, list))
 }
 
 #[unsafe(no_mangle)]
 pub extern "C" fn ombykape_fetch(pool: &[u64], key: u64) -> Reply
     ensures { p.FetchPromise pool.now key result }
 {
-    exports::ombykape_fetch(pool, key)
+    outcome_reply(pool::fetch(pool, key), 0)
 }
 
 #[unsafe(no_mangle)]
 pub extern "C" fn ombykape_put(pool: &[u64], list: &mut [u64], key: u64, value: u64) -> Reply
     ensures { p.PutPromise pool.now list.old key value result list.new }
 {
-    exports::ombykape_put(pool, list, key, value)
+    Reply::from(pool::put(pool, list, key, value))
 }
 
 #[unsafe(no_mangle)]
 pub extern "C" fn ombykape_delete(pool: &[u64], list: &mut [u64], key: u64) -> Reply
     ensures { p.DeletePromise pool.now list.old key result list.new }
 {
-    exports::ombykape_delete(pool, list, key)
+    Reply::from(pool::delete(pool, list, key))
 }
 
 #[unsafe(no_mangle)]
 pub extern "C" fn ombykape_check(pool: &[u64], marks: &mut [u8]) -> Verdict
     ensures { p.CheckPromise pool.now marks.old result marks.new }
 {
-    exports::ombykape_check(pool, marks)
+    Verdict::from(pool::check(pool, marks))
 }
 
 #[unsafe(no_mangle)]
 pub extern "C" fn ombykape_carry_out(pool: &mut [u64], list: &[u64], n: u64) -> Reply
     ensures { p.CarryPromise pool.old list.now n result pool.new }
 {
-    exports::ombykape_carry_out(pool, list, n)
+    carried_reply(words::carry_out(pool, list, n))
 }
 
 // The events of the list from 1 to a number, one after the other.
@@ -61,5 +61,5 @@ pub extern "C" fn ombykape_carry_out(pool: &mut [u64], list: &[u64], n: u64) -> 
 pub extern "C" fn ombykape_carry_all(pool: &mut [u64], list: &[u64], events: u64)
     ensures { CarryAllPromise pool.old list.now events pool.new }
 {
-    exports::ombykape_carry_all(pool, list, events);
+    words::carry_all(pool, list, events);
 }
