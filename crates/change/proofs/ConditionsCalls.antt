@@ -7,14 +7,13 @@ use mathlib.Core.Bool.{Bool, true, false, not, ◌&&◌}
 use mathlib.Core.Option.{Option, none, some}
 use lib.ListN.{length}
 use lib.Dec.{ltb, eqb}
-use Rattle.std.specs.Prelude.{if◌then◌else◌}
+use Rattle.std.specs.Prelude.{if◌then◌else◌, Ok, Err}
 use Rattle.words.specs.Pool.{height_most}
 use Rattle.words.specs.Event.{Event, event_at}
 use Rattle.words.specs.Answers.{carried_says}
 use Rattle.words.specs.Carry.{carried, inside}
 use Rattle.words.specs.declared.refusal.Refusal.{Refusal}
 use Rattle.words.specs.declared.refusal.Refusal.TheVariants.{NoPool, Unfinished, Damaged, NoRoom, BadLog, NoEvent}
-use Rattle.words.specs.declared.carry.Carried.TheVariants.{Done, Refused}
 use Rattle.words.proofs.Fails.{row, Fails, breaks, keeps, not_tells, tells_less, fails_equal, fails_within}
 use Rattle.words.proofs.Tests.{Tells, is, isnt}
 use Rattle.node.specs.Lists.{has}
@@ -164,6 +163,6 @@ carry_numbers m l n = go (event_at l n) (fails_event m l n)
     go (some e) f = at_slice (inside m e) f
       where
         at_slice : (b : Bool) → Fails (w.NoEvent m l n) b
-            → Says (w.carry_rows m l n) (carried_says (if b then Done else Refused NoEvent)).1
+            → Says (w.carry_rows m l n) (carried_says (if b then Ok tt else Err NoEvent)).1
         at_slice true (keeps h) = inr (h, refl)
         at_slice false (breaks c) = inl (c, refl)

@@ -4,7 +4,7 @@ ghost use Rattle.exports.specs.Replies as d;
 
 use crate::reply::{Kind, Reply, Verdict};
 use change::{Answer, Checked, Formatted, Outcome, Recovery};
-use words::{Carried, Refusal};
+use words::Refusal;
 
 pub fn plain(kind: u64, events: u64, value: u64) -> Reply
     ensures { result ≡ d.plain kind events value }
@@ -62,12 +62,12 @@ pub fn recovery_reply(recovery: Recovery) -> Reply
     }
 }
 
-pub fn carried_reply(carried: Carried) -> Reply
+pub fn carried_reply(carried: Result<(), Refusal>) -> Reply
     ensures { result ≡ d.carried_reply carried }
 {
     match carried {
-        Carried::Done => plain(Kind::DONE, 1, 0),
-        Carried::Refused(why) => refused(why),
+        Ok(()) => plain(Kind::DONE, 1, 0),
+        Err(why) => refused(why),
     }
 }
 

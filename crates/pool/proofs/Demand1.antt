@@ -7,7 +7,7 @@ use mathlib.Core.Option.{Option, none, some}
 use native.Mathlib.Omega.{arith}
 use lib.ListN.{length}
 use lib.Dec.{ltb, eqb}
-use Rattle.std.specs.Prelude.{if◌then◌else◌}
+use Rattle.std.specs.Prelude.{if◌then◌else◌, Result, Ok, Err}
 use Rattle.words.specs.Tests.{within}
 use Rattle.words.specs.Pool.{list_words, capacity_most, total_of, height_most}
 use Rattle.words.specs.Refusals.{number}
@@ -18,7 +18,6 @@ use Rattle.words.specs.Carry.{inside, carried, after}
 use Rattle.words.specs.declared.refusal.Refusal.{Refusal}
 use Rattle.words.specs.declared.refusal.Refusal.TheVariants.{ShortList, NoPool, Unfinished, Damaged, NoRoom, BadLog}
 use Rattle.words.specs.declared.refusal.Refusal.TheVariants.{BadCapacity, ShortSlice, NoDesk, FullDesk, ShortMarks, NoEvent}
-use Rattle.words.specs.declared.carry.Carried.TheVariants as e
 use Rattle.node.specs.Lists.{has}
 use Rattle.node.specs.View.{view, keys}
 use Rattle.tree.specs.Header.{form_agrees, counts_agree, commit_of, capacity_of, used_of}
@@ -156,12 +155,12 @@ serve_kept m l (Fetch key) = kept o.Refused _ l (quiet_fetch m key)
 serve_kept m l (Delete key) = kept o.Refused _ l (quiet_gates (length l) m _ (quiet_leaf _ (way_to m key) (quiet_delete m key)))
 
 -- an event that is refused leaves the pool
-pool_kept : (m : List ℕ) (x : Option Event) (why : Refusal) → carried m x ≡ e.Refused why → after m x ≡ m
+pool_kept : (m : List ℕ) (x : Option Event) (why : Refusal) → carried m x ≡ Err why → after m x ≡ m
 pool_kept m none why r = refl
 pool_kept m (some x) why r = go (inside m x) r
   where
-    go : (b : Bool) → (if b then e.Done else e.Refused NoEvent) ≡ e.Refused why → (if b then step m x else m) ≡ m
-    go true r = let z : ◌≡◌ {A = ℕ} 0 1 = cc in absurd (omega arith)
+    go : (b : Bool) → ◌≡◌ {A = Result (Unit {0}) Refusal} (if b then Ok tt else Err NoEvent) (Err why) → (if b then step m x else m) ≡ m
+    go true r = cc
     go false r = refl
 
 pub demand_1 : Demand1

@@ -3,12 +3,11 @@
 -- answers a refused request and empties its desk. No call relies on an earlier check." That a call stays inside, does not trap and ends
 -- is what the toolchain proves of every function; that it relies on no check is that it has no `requires`. The rest is here, for every
 -- memory, list and marks; of submit and turn it is said in the crate of the desks.
-use Rattle.std.specs.Prelude.{ℕ, ◌≡◌, List}
+use Rattle.std.specs.Prelude.{ℕ, ◌≡◌, List, Err}
 use Rattle.words.specs.Event.{event_at}
 use Rattle.words.specs.Answers.{carried_says}
 use Rattle.words.specs.Carry.{carried, after}
 use Rattle.words.specs.declared.refusal.Refusal.{Refusal}
-use Rattle.words.specs.declared.carry.Carried.TheVariants as e
 use Rattle.change.specs.declared.Request.{Request}
 use Rattle.change.specs.declared.Outcome.TheVariants as o
 use Rattle.change.specs.declared.Formatted.TheVariants as f
@@ -38,5 +37,5 @@ pub record Demand1 : Type 0 where
   pub serve_refused : (m l : List ℕ) (q : Request) (why : Refusal) → (calls.serve_answer m l q).outcome ≡ o.Refused why
       → ((calls.serve_answer m l q).events ≡ 0) × (calls.serve_list m l q ≡ l)
   pub check_refused : (m g : List ℕ) (why : Refusal) → calls.check_answer m g ≡ c.Refused why → calls.check_marks m g ≡ g
-  pub carry_out_refused : (m l : List ℕ) (n : ℕ) (why : Refusal) → carried m (event_at l n) ≡ e.Refused why
+  pub carry_out_refused : (m l : List ℕ) (n : ℕ) (why : Refusal) → carried m (event_at l n) ≡ Err why
       → after m (event_at l n) ≡ m

@@ -10,11 +10,11 @@ use lib.Bits.{bit_and, and_mask}
 use lib.ListN.{length, length-set, set}
 use lib.Seq.{get_or-set_same, get_or-set_other}
 use borrow.Author.Tests.{le-leb, lt-leb}
+use Rattle.std.specs.Prelude.{Ok}
 use Rattle.words.specs.Event.{Event, store, flush, fence, number_of, first_word, second_word, top_byte}
 use Rattle.words.specs.Event.{at, event_of, event_at, step, run}
 use Rattle.words.specs.Written.{written_one, written, Lists}
 use Rattle.words.specs.Carry.{inside, carried, after, after_all, AllDone}
-use Rattle.words.specs.declared.carry.Carried.TheVariants.{Done}
 use Rattle.words.proofs.Joined.{joined_high, joined_low}
 use Rattle.words.proofs.Written.{length_written}
 use Rattle.words.proofs.Events.{length_step}
@@ -113,7 +113,7 @@ inside_keeps : (m n : List ℕ) (es : List Event) → length n ≡ length m → 
 inside_keeps m n [] same h = tt
 inside_keeps m n (e ∷ es) same h = (sym (inside_step m n e same) ∙ h.0, inside_keeps m n es same h.1)
 
-done_one : (m : List ℕ) (e : Event) (o : Option Event) → o ≡ some e → inside m e ≡ true → (after m o ≡ step m e) × (carried m o ≡ Done)
+done_one : (m : List ℕ) (e : Event) (o : Option Event) → o ≡ some e → inside m e ≡ true → (after m o ≡ step m e) × (carried m o ≡ Ok tt)
 done_one m e o is h = rw (is, h) (refl, refl)
 
 -- past the list's end there is no event: however many are carried out from there, the pool is as it was

@@ -6,21 +6,15 @@ use crate::kind::{FENCE, FLUSH, STORE};
 use crate::limits::Pool;
 use crate::refusal::Refusal;
 
-#[derive(Drop)]
-pub enum Carried {
-    Done,
-    Refused(Refusal),
-}
-
 // Carries out event n of the list, counted from 1, on the pool.
-pub fn carry_out(pool: &mut [u64], list: &[u64], n: u64) -> Carried
+pub fn carry_out(pool: &mut [u64], list: &[u64], n: u64) -> Result<(), Refusal>
     ensures { CarryPromise pool.old list.now n result pool.new }
 {
     if n == 0 {
-        return Carried::Refused(Refusal::NoEvent);
+        return Err(Refusal::NoEvent);
     }
     if ((list.len() / 2) as u64) < n {
-        return Carried::Refused(Refusal::NoEvent);
+        return Err(Refusal::NoEvent);
     }
     let at = (n as usize - 1) * 2;
     let first = list[at];
@@ -31,18 +25,18 @@ pub fn carry_out(pool: &mut [u64], list: &[u64], n: u64) -> Carried
         STORE => {
             if number < (pool.len() as u64) {
                 pool[number as usize] = value;
-                return Carried::Done;
+                return Ok(());
             }
-            Carried::Refused(Refusal::NoEvent)
+            Err(Refusal::NoEvent)
         }
         FLUSH => {
             if number * Pool::LINE_WORDS < (pool.len() as u64) {
-                return Carried::Done;
+                return Ok(());
             }
-            Carried::Refused(Refusal::NoEvent)
+            Err(Refusal::NoEvent)
         }
-        FENCE => Carried::Done,
-        _ => Carried::Refused(Refusal::NoEvent),
+        FENCE => Ok(()),
+        _ => Err(Refusal::NoEvent),
     }
 }
 
@@ -69,6 +63,6 @@ pub fn carry_all(pool: &mut [u64], list: &[u64], events: u64)
     let mut n = 0;
     while n < most {
         n += 1;
-        carry_out(pool, list, n);
+        let _ = carry_out(pool, list, n);
     }
 }
