@@ -3,15 +3,15 @@ use Prim.Native.Nat.{ℕ, ◌-◌, ◌≤◌}
 use mathlib.Core.Path.{◌≡◌, refl, ◌∙◌, ap}
 use mathlib.Core.List.{List, [], ◌∷◌}
 use mathlib.Core.Bool.{Bool, true, false, not}
-use mathlib.Core.Option.{Option, none, some}
 use native.Mathlib.Omega.{arith}
 use lib.ListN.{length}
 use lib.Dec.{ltb, eqb}
-use Rattle.std.specs.Prelude.{if◌then◌else◌, Result, Ok, Err}
+use Rattle.std.specs.Prelude.{if◌then◌else◌, Option, Some, None, Result, Ok, Err}
 use Rattle.words.specs.Tests.{within}
 use Rattle.words.specs.Pool.{list_words, capacity_most, total_of, height_most}
 use Rattle.words.specs.Refusals.{number}
-use Rattle.words.specs.Event.{Event, step, event_at}
+use Rattle.words.specs.declared.event.Event.{Event}
+use Rattle.words.specs.Event.{step, event_at}
 use Rattle.words.specs.Written.{written}
 use Rattle.words.specs.Answers.{Said}
 use Rattle.words.specs.Carry.{inside, carried, after}
@@ -41,7 +41,8 @@ use Rattle.change.specs.Put.{put_at, needed}
 use Rattle.change.specs.Check.{refuse, check_past_gate, walked}
 use Rattle.change.specs.Calls as calls
 use Rattle.change.proofs.ConditionsCalls.{format_numbers, recover_numbers, fetch_numbers, put_numbers, delete_numbers}
-use Rattle.change.proofs.ConditionsCalls.{check_numbers, carry_numbers}
+use Rattle.change.proofs.ConditionsCalls.{check_numbers}
+use Rattle.change.proofs.Conditions.{carry_numbers}
 use Rattle.pool.specs.Demand1.{Demand1}
 
 -- a refusal plans no events
@@ -156,8 +157,8 @@ serve_kept m l (Delete key) = kept o.Refused _ l (quiet_gates (length l) m _ (qu
 
 -- an event that is refused leaves the pool
 pool_kept : (m : List ℕ) (x : Option Event) (why : Refusal) → carried m x ≡ Err why → after m x ≡ m
-pool_kept m none why r = refl
-pool_kept m (some x) why r = go (inside m x) r
+pool_kept m None why r = refl
+pool_kept m (Some x) why r = go (inside m x) r
   where
     go : (b : Bool) → ◌≡◌ {A = Result (Unit {0}) Refusal} (if b then Ok tt else Err NoEvent) (Err why) → (if b then step m x else m) ≡ m
     go true r = cc

@@ -6,7 +6,8 @@ use mathlib.Core.List.{List}
 use native.Mathlib.Omega.{arith}
 use lib.ListN.{length, take}
 use Rattle.words.specs.Pool as p
-use Rattle.words.specs.Event.{Event, run, top_byte}
+use Rattle.words.specs.declared.event.Event.{Event}
+use Rattle.words.specs.Event.{run, top_byte}
 use Rattle.words.specs.Written.{written}
 use Rattle.words.specs.Loss.{Cut}
 use Rattle.words.specs.Cuts.{Found}

@@ -9,7 +9,8 @@ use lib.Dec.{leb, ltb}
 use borrow.Author.Tests.{le-leb, lt-leb, lt-ltb, le-ltb, ltb-true, leb-true, leb-false, eq-eqb, ne_eqb}
 use Rattle.words.specs.Tests.{within}
 use Rattle.words.specs.Pool as p
-use Rattle.words.specs.Event.{Event, at}
+use Rattle.words.specs.declared.event.Event.{Event}
+use Rattle.words.specs.Event.{at}
 use Rattle.words.specs.Blocks.{Pair}
 use Rattle.words.specs.declared.refusal.Refusal.TheVariants.{ShortList, NoPool, BadLog}
 use Rattle.words.proofs.Tests.{both}

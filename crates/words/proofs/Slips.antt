@@ -9,7 +9,9 @@ use lib.ListN.{replicate}
 use Rattle.std.specs.Prelude.{Result, Ok, Err}
 use Rattle.words.specs.Lists.{count_from}
 use Rattle.words.specs.Pool.{pairs_at, pairs_most, nodes_at}
-use Rattle.words.specs.Event.{Event, store, flush, at, first_word, second_word, event_at}
+use Rattle.words.specs.declared.event.Event.{Event}
+use Rattle.words.specs.declared.event.Event.TheVariants.{Store as store, Flush as flush}
+use Rattle.words.specs.Event.{at, first_word, second_word, event_at}
 use Rattle.words.specs.Written.{written, Wrote}
 use Rattle.words.specs.Refusals.{number}
 use Rattle.words.specs.declared.refusal.Refusal.{Refusal}

@@ -1,8 +1,10 @@
 -- What carrying out one event answers and leaves: refusal 12 of document 01; and its promise.
 use Rattle.std.specs.Prelude.{ℕ, zero, suc, ◌*◌, ◌≡◌, List, Bool, true, length, ltb, if◌then◌else◌, Result, Ok, Err}
-use Rattle.std.proofs.Math.Option.{Option, none, some}
+use Rattle.std.specs.Prelude.{Option, Some as some, None as none}
 use Rattle.words.specs.Pool.{line_words}
-use Rattle.words.specs.Event.{Event, store, flush, fence, step, event_at}
+use Rattle.words.specs.declared.event.Event.{Event}
+use Rattle.words.specs.declared.event.Event.TheVariants.{Store as store, Flush as flush, Fence as fence}
+use Rattle.words.specs.Event.{step, event_at}
 use Rattle.words.specs.declared.refusal.Refusal.{Refusal}
 use Rattle.words.specs.declared.refusal.Refusal.TheVariants.{NoEvent}
 use Rattle.words.specs.Answers.{carried_says}

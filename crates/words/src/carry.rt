@@ -2,7 +2,7 @@
 ghost use Rattle.std.specs.Prelude.{◌≡◌, ◌/◌, min, length};
 ghost use Rattle.words.specs.Carry.{CarryPromise, CarryAllPromise};
 
-use crate::kind::{FENCE, FLUSH, STORE};
+use crate::event::{Event, event_at};
 use crate::limits::Pool;
 use crate::refusal::Refusal;
 
@@ -10,32 +10,13 @@ use crate::refusal::Refusal;
 pub fn carry_out(pool: &mut [u64], list: &[u64], n: u64) -> Result<(), Refusal>
     ensures { CarryPromise pool.old list.now n result pool.new }
 {
-    if n == 0 {
-        return Err(Refusal::NoEvent);
-    }
-    if ((list.len() / 2) as u64) < n {
-        return Err(Refusal::NoEvent);
-    }
-    let at = (n as usize - 1) * 2;
-    let first = list[at];
-    let value = list[at + 1];
-    let kind = first >> 56;
-    let number = first & 0x00ff_ffff_ffff_ffff;
-    match kind {
-        STORE => {
-            if number < (pool.len() as u64) {
-                pool[number as usize] = value;
-                return Ok(());
-            }
-            Err(Refusal::NoEvent)
+    match event_at(list, n) {
+        Some(Event::Store(word, value)) if word < (pool.len() as u64) => {
+            pool[word as usize] = value;
+            Ok(())
         }
-        FLUSH => {
-            if number * Pool::LINE_WORDS < (pool.len() as u64) {
-                return Ok(());
-            }
-            Err(Refusal::NoEvent)
-        }
-        FENCE => Ok(()),
+        Some(Event::Flush(line)) if line * Pool::LINE_WORDS < (pool.len() as u64) => Ok(()),
+        Some(Event::Fence) => Ok(()),
         _ => Err(Refusal::NoEvent),
     }
 }

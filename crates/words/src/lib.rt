@@ -2,7 +2,7 @@
 #![tactic(auto)]
 
 mod carry;
-mod kind;
+mod event;
 pub mod limits;
 pub mod refusal;
 mod write;
