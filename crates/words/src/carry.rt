@@ -1,5 +1,4 @@
 // Carrying out one event of a list, and all of them.
-ghost use Rattle.std.specs.Prelude.{◌≡◌, ◌/◌, min, length};
 ghost use Rattle.words.specs.Carry.{CarryPromise, CarryAllPromise};
 
 use crate::event::{Event, event_at};
@@ -21,17 +20,6 @@ pub fn carry_out(pool: &mut [u64], list: &[u64], n: u64) -> Result<(), Refusal>
     }
 }
 
-// So many events, or all that the list has if these are fewer.
-fn most_of(list: &[u64], events: u64) -> u64
-    ensures { result ≡ min events (length list.now / 2) }
-{
-    let held = (list.len() / 2) as u64;
-    if held < events {
-        return held;
-    }
-    events
-}
-
 // All events of the list up to a number, one after the other. Past the list's end there are none, so it stops there.
 pub fn carry_all(pool: &mut [u64], list: &[u64], events: u64)
     ensures { CarryAllPromise pool.old list.now events pool.new }
@@ -40,10 +28,7 @@ pub fn carry_all(pool: &mut [u64], list: &[u64], events: u64)
     if events == 0 {
         return;
     }
-    let most = most_of(list, events);
-    let mut n = 0;
-    while n < most {
-        n += 1;
+    for n in 1..=events.min((list.len() / 2) as u64) {
         let _ = carry_out(pool, list, n);
     }
 }
