@@ -20,6 +20,14 @@ may_turn_true n last t =
     let b = within_says 1 n desks_most a.0 in
     (b.0, b.1, leb-true last n a.1)
 
+-- where one of these fails, the turn is refused
+pub no_turn : (n last : ℕ) → ((1 ≤ n) × (n ≤ desks_most) × (last ≤ n) → ⊥) → may_turn n last ≡ false
+no_turn n last f = go (may_turn n last) refl
+  where
+    go : (b : Bool) → may_turn n last ≡ b → b ≡ false
+    go true t = absurd (f (may_turn_true n last t))
+    go false t = refl
+
 pub turn_may : (n last : ℕ) → 1 ≤ n → n ≤ desks_most → last ≤ n → may_turn n last ≡ true
 turn_may n last a b c = rw (le-leb 1 n a, le-leb n desks_most b, le-leb last n c)
 
