@@ -8,7 +8,7 @@ use Rattle.words.specs.Event.{at}
 use Rattle.words.specs.Kinds as k
 use Rattle.words.specs.Answers.{Said}
 use Rattle.words.proofs.Answers.{told, refusal_of, refusal_back}
-use Rattle.change.proofs.Answers.{outcome_of, outcome_back}
+use Rattle.change.proofs.Answers.{outcome_read, outcome_back}
 use Rattle.desk.specs.declared.answer.Turned.{Turned}
 use Rattle.desk.specs.declared.answer.Turned.TheVariants.{Served, Idle}
 use Rattle.desk.specs.declared.answer.Turn.{Turn}
@@ -27,7 +27,7 @@ submit_told = told submit_says submit_of submit_back
 
 abbrev turned_of : Said → Result Turned Refusal
 turned_of x =
-    if eqb x.0 k.served then Ok (Served (outcome_of (at x.2 0, x.1, drop 1 x.2)))
+    if eqb x.0 k.served then Ok (Served (outcome_read (at x.2 0, x.1, drop 1 x.2)))
     else if eqb x.0 k.idle then Ok Idle
     else Err (refusal_of x.1)
 

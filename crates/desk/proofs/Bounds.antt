@@ -11,7 +11,7 @@ use Rattle.words.proofs.Tests.{both, within_says}
 use Rattle.desk.specs.Desk.{desks_most, may_submit, may_turn}
 
 pub not_both : (b : Bool) → b ≡ true → b ≡ false → ⊥
-not_both b p q = let z : ◌≡◌ {A = ℕ} 0 1 = cc in omega arith
+not_both b p q = cc
 
 -- the desks are 1 to 16
 pub may_turn_true : (n last : ℕ) → may_turn n last ≡ true → (1 ≤ n) × (n ≤ desks_most) × (last ≤ n)

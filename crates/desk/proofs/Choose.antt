@@ -64,7 +64,7 @@ pub dist_self : (M k : ℕ) → dist M k k ≡ M
 dist_self M k = rw (le-ltb k k (omega arith)) (omega arith)
 
 fresh_full : full fresh ≡ true → ⊥
-fresh_full h = let z : ◌≡◌ {A = ℕ} 0 1 = cc in omega arith
+fresh_full h = cc
 
 module _ (ds : List Desk) where
   pub full_range : (j : ℕ) → full (held ds j) ≡ true → (1 ≤ j) × (j ≤ length ds)

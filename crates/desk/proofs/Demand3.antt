@@ -14,6 +14,9 @@ use Rattle.words.specs.Loss.{Safe}
 use Rattle.words.specs.Cuts.{Found}
 use Rattle.words.specs.declared.refusal.Refusal.{Refusal}
 use Rattle.words.proofs.Loss.{settled_safe}
+use Rattle.change.specs.Gate.{outcome_of}
+use Rattle.change.specs.declared.Outcome.{Outcome}
+use Rattle.change.proofs.Refused.{outcome_answered}
 use Rattle.change.specs.declared.Request.{Request}
 use Rattle.change.specs.declared.Answer.{Answer}
 use Rattle.change.specs.Calls.{serve_answer}
@@ -72,8 +75,9 @@ module _ (P : Pools) (K : Promise P) where
       x : Kept P h.pool l q
       x = kept P K h l k q y room e
 
-      says : ◌≡◌ {A = Result Turned Refusal} (Ok (Served (serve_answer h.pool l q).outcome)) (Ok (Served x.plan.answer))
-      says = ap (λ (z : Answer). Ok (Served z.outcome)) x.answer_is
+      says : ◌≡◌ {A = Result Turned Refusal} (Ok (Served (outcome_of (serve_answer h.pool l q)))) (Ok (Served x.plan.answer))
+      says = ap (λ (z : Result Answer Refusal). Ok (Served (outcome_of z))) x.answer_is
+          ∙ ap (λ (z : Result Outcome Refusal). Ok (Served z)) (outcome_answered x.plan)
 
       after_is : P.map_of t.pool ≡ P.map_of (run h.pool x.plan.events)
       after_is = ap P.map_of (pool_is x)

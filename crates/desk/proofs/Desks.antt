@@ -47,9 +47,9 @@ accepted_is ds j = go (may_submit (length ds) j) (full (held ds j))
   where
     go : (a b : Bool) → ◌≡◌ {A = Result Unit Refusal} (if not a then Err NoDesk else if b then Err FullDesk else Ok tt) (Ok tt)
         → (a && not b) ≡ true
-    go true true e = let z : ◌≡◌ {A = ℕ} 0 1 = cc in absurd (omega arith)
+    go true true e = cc
     go true false e = refl
-    go false b e = let z : ◌≡◌ {A = ℕ} 0 1 = cc in absurd (omega arith)
+    go false b e = cc
 
 module _ (ds : List Desk) (i : ℕ) (p : Request) where
   pub length_submit : length (submit_desks ds i p) ≡ length ds

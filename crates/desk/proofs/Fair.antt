@@ -6,8 +6,10 @@ use native.Mathlib.Omega.{arith}
 use native.Mathlib.Decide.{ℕ_discrete}
 use lib.ListN.{length}
 use borrow.Author.Tests.{eq-eqb, ne_eqb}
-use Rattle.std.specs.Prelude.{Some, Ok}
+use Rattle.std.specs.Prelude.{Some, Result, Ok}
 use Rattle.words.specs.Pool.{list_words}
+use Rattle.words.specs.declared.refusal.Refusal.{Refusal}
+use Rattle.change.specs.Gate.{outcome_of}
 use Rattle.change.specs.declared.Request.{Request}
 use Rattle.change.specs.declared.Outcome.{Outcome}
 use Rattle.change.specs.Calls.{serve_answer}
@@ -43,7 +45,7 @@ pub record Waits (M last j : ℕ) (ts : List Seen) : Type 0 where
 
 pub data Fate (M last j : ℕ) (q : Request) : List Seen → Type 0 where
   waits : {ts : List Seen} → Waits M last j ts → Fate M last j q ts
-  comes : {ts : List Seen} (before : List Seen) (its : Seen) (rest : List Seen) (o : Outcome) → ts ≡ before ++ its ∷ rest
+  comes : {ts : List Seen} (before : List Seen) (its : Seen) (rest : List Seen) (o : Result Outcome Refusal) → ts ≡ before ++ its ∷ rest
       → its.left.answer.turned ≡ Ok (Served o) → member_of its ≡ j → desk_of its ≡ Some q → Waits M last j before → Fate M last j q ts
 
 start : (M last j : ℕ) → last ≤ M → 1 ≤ j → j ≤ M → Waits M last j []
@@ -110,7 +112,7 @@ fate (turn l ∷ r) h j q (room, lent) s e =
     serve k p a b f n (yes x) ih =
         let t = serve_desk h.pool l h.last k (Some p) in
         let f' : held h.desks k ≡ Some q = rw (← x) at e in
-        comes [] (seen_by h t) (turns our_way (left_by h t) r) (serve_answer h.pool l p).outcome refl refl x f'
+        comes [] (seen_by h t) (turns our_way (left_by h t) r) (outcome_of (serve_answer h.pool l p)) refl refl x f'
         (start M h.last j last_is g.0 g.1)
     serve k p a b f n (no x) ih =
         let t = serve_desk h.pool l h.last k (Some p) in

@@ -23,11 +23,11 @@ abbrev three : House
 three = record { pool = seven 3; desks = Some (Put 80 80) ∷ None ∷ Some (Fetch 30) ∷ []; last = 0 }
 
 fit : (j : ℕ) (q : Request) → held three.desks j ≡ Some q → key_of q < no_end
-fit zero q e = let z : ◌≡◌ {A = ℕ} 0 1 = cc in absurd (omega arith)
+fit zero q e = cc
 fit (suc zero) q e = let i : Put 80 80 ≡ q = cc in rw (← i) (omega arith)
-fit (suc (suc zero)) q e = let z : ◌≡◌ {A = ℕ} 0 1 = cc in absurd (omega arith)
+fit (suc (suc zero)) q e = cc
 fit (suc (suc (suc zero))) q e = let i : Fetch 30 ≡ q = cc in rw (← i) (omega arith)
-fit (suc (suc (suc (suc j)))) q e = let z : ◌≡◌ {A = ℕ} 0 1 = cc in absurd (omega arith)
+fit (suc (suc (suc (suc j)))) q e = cc
 
 pub ready : Ready our_pools three
 ready = record {

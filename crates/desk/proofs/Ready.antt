@@ -3,7 +3,6 @@ use Prim.Native.Nat.{ℕ, ◌≤◌}
 use mathlib.Core.Path.{◌≡◌, refl, sym, ◌∙◌, subst}
 use mathlib.Core.List.{List, [], ◌∷◌, ◌++◌}
 use mathlib.Core.Bool.{Bool, true, false}
-use native.Mathlib.Omega.{arith}
 use native.Mathlib.Decide.{ℕ_discrete}
 use lib.ListN.{length}
 use Rattle.std.specs.Prelude.{Some}
@@ -81,7 +80,7 @@ module _ (P : Pools) where
         still i p (yes d) g =
             let s : held (with_desk h.desks k fresh) i ≡ fresh =
             subst (λ (x : ℕ). held (with_desk h.desks k fresh) x ≡ fresh) d (with_same h.desks k fresh a b) in
-            let z : ◌≡◌ {A = ℕ} 0 1 = cc in absurd (omega arith)
+            cc
         still i p (no d) g = y.fit i p (sym (with_other h.desks k i fresh d) ∙ g)
 
     pub ready_after : (r : List Call) (h : House) → Given P r → Ready P h → Ready P (after our_way h r)

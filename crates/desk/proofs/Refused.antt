@@ -16,14 +16,16 @@ use Rattle.words.proofs.Tests.{Tells, is, isnt}
 use Rattle.words.proofs.Fails.{row, not_tells, tells_less, fails_most, fails_within, fails_and, not_out}
 use Rattle.change.specs.declared.Request.{Request}
 use Rattle.change.specs.declared.Request.TheVariants.{Put, Fetch, Delete}
-use Rattle.change.specs.declared.Outcome.{Outcome}
-use Rattle.change.specs.declared.Outcome.TheVariants as o
+use Rattle.change.specs.declared.Answer.{Answer}
+use Rattle.change.specs.Gate.{outcome_of}
+use Rattle.change.specs.Fetch.{fetch}
+use Rattle.change.proofs.Refused.{outcome_answered}
 use Rattle.change.specs.Answers.{outcome_says}
 use Rattle.change.specs.Calls.{serve_answer, serve_list}
 use Rattle.change.specs.Conditions.{Says, ShortList}
 use Rattle.pool.proofs.Demand1.{demand_1, some_number}
 use Rattle.desk.specs.declared.answer.Turned.{Turned}
-use Rattle.desk.specs.declared.answer.Turned.TheVariants.{Served, Idle}
+use Rattle.desk.specs.declared.answer.Turned.TheVariants.{Served}
 use Rattle.desk.specs.Desk.{Desk, full, held, with_desk, fresh, may_submit, may_turn, choose}
 use Rattle.desk.specs.Turn.{Left, submit_answer, submit_desks, as_handed, serve_desk, serve_turn, turn}
 use Rattle.desk.specs.Answers.{submit_says, turned_says}
@@ -55,7 +57,7 @@ submit_numbers ds member =
     tells_full h = rw (held_is ds member h) (go (get_or ds (member - 1) None))
       where
         go : (d : Desk) → Tells ((q : Request) × (d ≡ Some q)) (full d)
-        go None = isnt (λ x. let e = x.1 in let z : ◌≡◌ {A = ℕ} 0 1 = cc in omega arith)
+        go None = isnt (λ x. let e = x.1 in cc)
         go (Some q) = is (q, refl)
 
 submit_kept : (ds : List Desk) (member : ℕ) (q : Request) (why : Refusal) → submit_answer ds member ≡ Err why
@@ -67,7 +69,7 @@ submit_kept ds member q why = go (may_submit (length ds) member) (full (held ds 
         → ◌≡◌ {A = Result Unit Refusal} (if not a then Err NoDesk else if b then Err FullDesk else Ok tt) (Err why)
         → (if a && not b then with_desk ds member (Some q) else ds) ≡ ds
     go true true e = refl
-    go true false e = let z : ◌≡◌ {A = ℕ} 0 1 = cc in absurd (omega arith)
+    go true false e = cc
     go false b e = refl
 
 -- what a turn serves, past 1
@@ -75,9 +77,9 @@ past_one : {C R : Type 0} {n : ℕ} → ¬ C → (C × (n ≡ 1)) ⊎ ((¬ C) ×
 past_one n (inl c) = absurd (n c.0)
 past_one n (inr h) = h.1
 
-request_numbers : (m l : List ℕ) (q : Request) → ¬ ShortList l → Says (w.request_rows m q) (outcome_says (serve_answer m l q).outcome).1
+request_numbers : (m l : List ℕ) (q : Request) → ¬ ShortList l → Says (w.request_rows m q) (outcome_says (outcome_of (serve_answer m l q))).1
 request_numbers m l (Put key value) n = past_one n (demand_1.put m l key value)
-request_numbers m l (Fetch key) n = demand_1.fetch m key
+request_numbers m l (Fetch key) n = rw (outcome_answered (fetch m key)) (demand_1.fetch m key)
 request_numbers m l (Delete key) n = past_one n (demand_1.delete m l key)
 
 -- a refusal among them is 2 to 5
@@ -143,8 +145,8 @@ module _ (m l : List ℕ) (ds : List Desk) (last : ℕ) where
           → by m l (length ds) last k a b d ≡ as_handed m l last (Err why)
       go true b d e = ap (as_handed m l last) e
       go false true d e = ap (as_handed m l last) e
-      go false false None e = let z : ◌≡◌ {A = ℕ} 0 1 = cc in absurd (omega arith)
-      go false false (Some q) e = let z : ◌≡◌ {A = ℕ} 0 1 = cc in absurd (omega arith)
+      go false false None e = cc
+      go false false (Some q) e = cc
 
   as_handed_is : (why : Refusal) → left.answer.turned ≡ Err why → w.AsHanded our_way m l ds last
   as_handed_is why r =
@@ -164,35 +166,34 @@ module _ (m l : List ℕ) (ds : List Desk) (last : ℕ) where
     long : ¬ ShortList l
     desk_is : held ds k ≡ Some q
     left_is : left ≡ serve_desk m l last k (Some q)
-    outcome_is : (serve_answer m l q).outcome ≡ o.Refused why
+    answer_is : serve_answer m l q ≡ Err why
 
-  serves : (why : Refusal) → left.answer.turned ≡ Ok (Served (o.Refused why)) → Serves why
+  serves : (why : Refusal) → left.answer.turned ≡ Ok (Served (Err why)) → Serves why
   unfolding serve_turn
   serves why = go (not (may_turn (length ds) last)) (tells_less (length l) 372) (held ds k) refl refl
     where
-      outcome_of : Result Turned Refusal → Outcome
-      outcome_of (Ok (Served outcome)) = outcome
-      outcome_of (Ok Idle) = o.Absent
-      outcome_of (Err x) = o.Absent
+      refused_of : (a : Result Answer Refusal) → ◌≡◌ {A = Result Turned Refusal} (Ok (Served (outcome_of a))) (Ok (Served (Err why))) → a ≡ Err why
+      refused_of (Ok a) e = cc
+      refused_of (Err x) e = let same : x ≡ why = cc in ap Err same
 
       go : (a : Bool) {b : Bool} → Tells (ShortList l) b → (d : Desk) → held ds k ≡ d → left ≡ by m l (length ds) last k a b d
-          → (by m l (length ds) last k a b d).answer.turned ≡ Ok (Served (o.Refused why)) → Serves why
-      go true t d f x e = let z : ◌≡◌ {A = ℕ} 0 1 = cc in absurd (omega arith)
-      go false (is c) d f x e = let z : ◌≡◌ {A = ℕ} 0 1 = cc in absurd (omega arith)
-      go false (isnt n) None f x e = let z : ◌≡◌ {A = ℕ} 0 1 = cc in absurd (omega arith)
+          → (by m l (length ds) last k a b d).answer.turned ≡ Ok (Served (Err why)) → Serves why
+      go true t d f x e = cc
+      go false (is c) d f x e = cc
+      go false (isnt n) None f x e = cc
       go false (isnt n) (Some q) f x e =
-          record { q = q; long = n; desk_is = f; left_is = x; outcome_is = ap outcome_of e }
+          record { q = q; long = n; desk_is = f; left_is = x; answer_is = refused_of (serve_answer m l q) e }
 
-  answered_is : (why : Refusal) → left.answer.turned ≡ Ok (Served (o.Refused why)) → w.Answered our_way m l ds last why
+  answered_is : (why : Refusal) → left.answer.turned ≡ Ok (Served (Err why)) → w.Answered our_way m l ds last why
   unfolding after_all
   answered_is why r =
       let x = serves why r in
       let q = x.q in
       let e = x.left_is in
-      let kept = demand_1.serve_refused m l q why x.outcome_is in
+      let kept = demand_1.serve_refused m l q why x.answer_is in
       let range = full_range ds k (ap full x.desk_is) in
       let says : Says (w.request_rows m q) (number why) =
-      rw x.outcome_is at (request_numbers m l q x.long) in
+      rw x.answer_is at (request_numbers m l q x.long) in
       record {
         request = q;
         member = k;

@@ -2,7 +2,6 @@
 use Prim.Native.Nat.{ℕ}
 use mathlib.Core.Path.{◌≡◌, refl}
 use mathlib.Core.List.{List, [], ◌∷◌}
-use native.Mathlib.Omega.{arith}
 use lib.ListN.{replicate}
 use Rattle.std.specs.Prelude.{Err, None, Some}
 use Rattle.words.specs.Pool.{list_words}
@@ -28,4 +27,4 @@ desk_not_fresh = refl
 pub left_full : (r : Turn) (l : List ℕ)
     → PlanTurnPromise [] (replicate list_words 0) (Some (Fetch 7) ∷ []) 0 r l (Some (Fetch 7) ∷ []) → ⊥
 unfolding serve_turn form_agrees first_full
-left_full r l h = let full : Some (Fetch 7) ∷ [] ≡ None ∷ [] = h.2 in let z : ◌≡◌ {A = ℕ} 0 1 = cc in omega arith
+left_full r l h = let full : Some (Fetch 7) ∷ [] ≡ None ∷ [] = h.2 in cc

@@ -126,9 +126,9 @@ module _ (P : Pools) (m : List ℕ) (p q : Request) (fits_p : P.Fits p) (fits_q 
   dropped x = let (g, t, rest) = x.answers (turn words ∷ []) (room, tt) in go g t
     where
       go : (g : Map) → Ruled P (seen drops one words) (P.map_of m) g → ⊥
-      go g (idle none a e) = let f : Some p ≡ None = none 1 in let z : ◌≡◌ {A = ℕ} 0 1 = cc in omega arith
-      go g (by_rule r h a l e) = let z : ◌≡◌ {A = ℕ} 0 1 = cc in omega arith
-      go g (no_room r h a l c e) = let z : ◌≡◌ {A = ℕ} 0 1 = cc in omega arith
+      go g (idle none a e) = let f : Some p ≡ None = none 1 in cc
+      go g (by_rule r h a l e) = cc
+      go g (no_room r h a l c e) = cc
 
   -- member 2 is served by the first turn; the second, of member 1, is one of the M turns all the same
   pub overspent : Demand3 overspends P (record { pool = m; desks = Some p ∷ None ∷ []; last = 1 }) → ⊥

@@ -2,17 +2,17 @@
 -- M-th turn after it at latest, unless power goes, every other desk at most once before it, whatever is submitted meanwhile. Those turns
 -- carry out at most M times 186 events. Answers, in the order served, are those of demand 2's map, 01's refusal 5 aside. A cut in any turn
 -- leaves, after recovery, the map of the finished turns, with or without that turn's change."
-use Rattle.std.specs.Prelude.{ℕ, suc, ◌*◌, ◌+◌, ◌≤◌, ◌<◌, ◌≡◌, ◌⊎◌, List, [], ◌∷◌, ◌++◌, length, take, Some, Ok}
+use Rattle.std.specs.Prelude.{ℕ, suc, ◌*◌, ◌+◌, ◌≤◌, ◌<◌, ◌≡◌, ◌⊎◌, List, [], ◌∷◌, ◌++◌, length, take, Some, Result, Ok, Err}
 use Rattle.words.specs.Pool.{list_words, events_most}
 use Rattle.words.specs.Event.{Event, run}
 use Rattle.words.specs.Carry.{AllDone}
 use Rattle.words.specs.Loss.{Safe}
 use Rattle.words.specs.Cuts.{Found}
+use Rattle.words.specs.declared.refusal.Refusal.{Refusal}
 use Rattle.words.specs.declared.refusal.Refusal.TheVariants.{NoRoom}
 use Rattle.change.specs.Rule.{Map, rule}
 use Rattle.change.specs.declared.Request.{Request}
 use Rattle.change.specs.declared.Outcome.{Outcome}
-use Rattle.change.specs.declared.Outcome.TheVariants.{Refused}
 use Rattle.desk.specs.declared.answer.Turned.TheVariants.{Served, Idle}
 use Rattle.desk.specs.Desk.{desks_most, fresh, held}
 use Rattle.desk.specs.Turn.{submit_answer, unserved}
@@ -38,7 +38,7 @@ pub record InTime (M j : ℕ) (q : Request) (ts : List Seen) : Type 0 where
   pub rest : List Seen
   pub in_row : ts ≡ before ++ its ∷ rest
   -- "served": the turn answers this member an outcome, and its desk held this request
-  pub outcome : Outcome
+  pub outcome : Result Outcome Refusal
   pub serves : (its.left.answer.turned ≡ Ok (Served outcome)) × (its.left.answer.member ≡ j) × (desk_of its ≡ Some q)
   -- "by the M-th turn after it at latest"
   pub by_then : suc (length before) ≤ M
@@ -53,9 +53,9 @@ module _ (P : Pools) where
   -- served; or no desk is full: "Idle, on any pool, member 0, 0 events, last served as handed"
   pub data Ruled (t : Seen) (f g : Map) : Type 0 where
     idle : ((j : ℕ) → held t.handed.desks j ≡ fresh) → t.left.answer ≡ unserved t.handed.last (Ok Idle) → g ≡ f → Ruled t f g
-    by_rule : (q : Request) → desk_of t ≡ Some q → t.left.answer.turned ≡ Ok (Served (rule q f).0)
+    by_rule : (q : Request) → desk_of t ≡ Some q → t.left.answer.turned ≡ Ok (Served (Ok (rule q f).0))
         → t.left.answer.last ≡ t.left.answer.member → g ≡ (rule q f).1 → Ruled t f g
-    no_room : (q : Request) → desk_of t ≡ Some q → t.left.answer.turned ≡ Ok (Served (Refused NoRoom))
+    no_room : (q : Request) → desk_of t ≡ Some q → t.left.answer.turned ≡ Ok (Served (Err NoRoom))
         → t.left.answer.last ≡ t.left.answer.member → P.Lacks t.handed.pool q → g ≡ f → Ruled t f g
 
   abbrev pub AllRuled : List Seen → Map → Map → Type 0

@@ -5,7 +5,6 @@ use Rattle.words.specs.Refusals.{number}
 use Rattle.words.specs.declared.refusal.Refusal.{Refusal}
 use Rattle.change.specs.declared.Request.{Request}
 use Rattle.change.specs.declared.Request.TheVariants.{Put, Fetch, Delete}
-use Rattle.change.specs.declared.Outcome.TheVariants as o
 use Rattle.change.specs.Conditions.{Rows, Says, Outside, ShortList, NoPool, Unfinished, Damaged, NoRoom, SplitsEight}
 use Rattle.desk.specs.declared.answer.Turned.{Turned}
 use Rattle.desk.specs.declared.answer.Turned.TheVariants.{Served}
@@ -89,4 +88,4 @@ module _ (X : Way) where
         → AsHanded m l ds last
     -- "Inside a turn 2 to 5 become the member's answer and the desk is emptied."
     pub request_refused : (m l : List ℕ) (ds : List Desk) (last : ℕ) (why : Refusal)
-        → (X.turn m l ds last).answer.turned ≡ Ok (Served (o.Refused why)) → Answered m l ds last why
+        → (X.turn m l ds last).answer.turned ≡ Ok (Served (Err why)) → Answered m l ds last why

@@ -5,6 +5,7 @@ use Rattle.words.specs.Carry.{after_all}
 use Rattle.words.specs.declared.refusal.Refusal.{Refusal}
 use Rattle.words.specs.declared.refusal.Refusal.TheVariants.{ShortList, NoDesk, FullDesk}
 use Rattle.change.specs.declared.Request.{Request}
+use Rattle.change.specs.Gate.{outcome_of, events_of}
 use Rattle.change.specs.Calls.{serve_answer, serve_list}
 use Rattle.desk.specs.declared.answer.Turned.{Turned}
 use Rattle.desk.specs.declared.answer.Turned.TheVariants.{Served, Idle}
@@ -44,8 +45,8 @@ serve_desk m l last member (Some q) =
     let a = serve_answer m l q in
     let l' = serve_list m l q in
     record {
-      answer = record { turned = Ok (Served a.outcome); member = member; events = a.events; last = member };
-      pool = after_all m l' 1 a.events;
+      answer = record { turned = Ok (Served (outcome_of a)); member = member; events = events_of a; last = member };
+      pool = after_all m l' 1 (events_of a);
       list = l';
     }
 

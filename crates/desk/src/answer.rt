@@ -2,16 +2,16 @@
 use change::Outcome;
 use words::Refusal;
 
-// A request was served, or no desk was full.
-#[derive(Clone, Copy)]
+// A member's request was answered, or no desk was full.
+#[derive(Clone, Copy, PartialEq, Eq)]
 pub enum Turned {
-    Served(Outcome),
+    Served(Result<Outcome, Refusal>),
     Idle,
 }
 
 // The answer, or why the turn itself is refused; the member served (0 for none), the events carried out, and the last served to hand to
 // the next turn.
-#[derive(Clone, Copy)]
+#[derive(Clone, Copy, PartialEq, Eq)]
 pub struct Turn {
     pub turned: Result<Turned, Refusal>,
     pub member: u64,

@@ -6,11 +6,12 @@ ghost use Rattle.desk.specs.Desk.{with_desk};
 ghost use Rattle.desk.specs.Turn as t;
 ghost use Rattle.desk.specs.Promises.{PlanTurnPromise, TurnPromise};
 ghost use Rattle.desk.specs.inner.Parts.{found, chosen};
+ghost use Rattle.desk.specs.inner.Parts as parts;
 
 use crate::answer::{Turn, Turned};
 use crate::lent::Lent;
 use crate::submitting::DESKS_MOST;
-use change::Request;
+use change::{Answer, Request};
 use words::{Pool, Refusal};
 
 // The place and the request of the first full desk from one place up to another.
@@ -60,6 +61,22 @@ fn unserved(turned: Result<Turned, Refusal>, last: u64) -> Turn
     }
 }
 
+// The answer of a member served.
+fn served(answer: Result<Answer, Refusal>, member: u64) -> Turn
+    ensures { result ≡ parts.served member answer }
+{
+    let (outcome, events) = match answer {
+        Ok(answer) => (Ok(answer.outcome), answer.events),
+        Err(why) => (Err(why), 0),
+    };
+    Turn {
+        turned: Ok(Turned::Served(outcome)),
+        member,
+        events,
+        last: member,
+    }
+}
+
 // A turn whose events the caller carries out: the pool is only read.
 pub fn plan_turn<L: Lent>(pool: &[u64], list: &mut [u64], desks: &mut [L], last: u64) -> Turn
     ensures promise { PlanTurnPromise pool.now list.old (L.reads desks.old) last result list.new (L.reads desks.new) }
@@ -71,14 +88,7 @@ pub fn plan_turn<L: Lent>(pool: &[u64], list: &mut [u64], desks: &mut [L], last:
         Ok(Some(chosen)) => chosen,
     };
     desks[i] = L::lend(None);
-    let answer = pool::serve(pool, list, request);
-    let member = i as u64 + 1;
-    Turn {
-        turned: Ok(Turned::Served(answer.outcome)),
-        member,
-        events: answer.events,
-        last: member,
-    }
+    served(pool::serve(pool, list, request), i as u64 + 1)
 }
 
 pub fn turn<L: Lent>(pool: &mut [u64], list: &mut [u64], desks: &mut [L], last: u64) -> Turn

@@ -4,6 +4,10 @@ use Rattle.words.specs.Pool.{list_words}
 use Rattle.words.specs.declared.refusal.Refusal.{Refusal}
 use Rattle.words.specs.declared.refusal.Refusal.TheVariants.{ShortList, NoDesk}
 use Rattle.change.specs.declared.Request.{Request}
+use Rattle.change.specs.declared.Answer.{Answer}
+use Rattle.change.specs.Gate.{outcome_of, events_of}
+use Rattle.desk.specs.declared.answer.Turned.TheVariants.{Served}
+use Rattle.desk.specs.declared.answer.Turn.{Turn}
 use Rattle.desk.specs.Desk.{Desk, held, may_turn, choose}
 
 -- the place of a member's desk and the request that it holds; of nobody, as of an empty desk, none
@@ -16,3 +20,8 @@ chosen l ds last =
     if not (may_turn (length ds) last) then Err NoDesk
     else if ltb (length l) list_words then Err ShortList
     else Ok (found ds (choose ds last))
+
+-- the answer of a member served
+abbrev pub served : ℕ → Result Answer Refusal → Turn
+served member a =
+    record { turned = Ok (Served (outcome_of a)); member = member; events = events_of a; last = member }

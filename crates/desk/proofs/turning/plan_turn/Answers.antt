@@ -5,18 +5,17 @@ use native.Mathlib.Numerals.{add-one}
 use borrow.Author.Rules.{rules}
 use Prim.Native.Nat.{ℕ, suc, ◌+◌, ◌<◌}
 use lib.ListN.{length}
-use Rattle.std.specs.Prelude.{Ok}
+use Rattle.std.specs.Prelude.{Result, Ok}
+use Rattle.words.specs.declared.refusal.Refusal.{Refusal}
 use Rattle.change.specs.declared.Answer.{Answer}
 use Rattle.change.proofs.Answers.{answer_told}
-use Rattle.desk.specs.declared.answer.Turned.TheVariants.{Served}
 use Rattle.desk.specs.declared.answer.Turn.{Turn}
+use Rattle.desk.specs.inner.Parts as parts
 use Rattle.desk.proofs.Turns.{refused, idle, served, does}
 use Rattle.desk.proofs.turning.plan_turn.Goals as goal
 
-answers : (a b : Answer) (i : ℕ) → a ≡ b
-    → ◌≡◌ {A = Turn} (record { turned = Ok (Served a.outcome); member = i + 1; events = a.events; last = i + 1 })
-    (record { turned = Ok (Served b.outcome); member = suc i; events = b.events; last = suc i })
-answers a b i e = rw (e, add-one)
+answers : {a b : Result Answer Refusal} (r : Turn) (i : ℕ) → r ≡ parts.served (i + 1) a → a ≡ b → r ≡ parts.served (suc i) b
+answers r i e f = rw (e, f, add-one)
 
 pub returns-in-Err : goal.returns-in-Err
 returns-in-Err g c =
@@ -48,8 +47,8 @@ offset_bounds-desks-i g c =
     let within : c.in-Ok-Some.chosen.0 < length c.args.desks.now = is.1 in
     search rules
 
-pub overflow_add-member : goal.overflow_add-member
-overflow_add-member g c =
+pub overflow_add-i : goal.overflow_add-i
+overflow_add-i g c =
     let w = g.met.L.Lent in
     let chosen = sym c.choose.ensures ∙ c.in-Ok-Some.is ∙ ap Ok c.in-Ok-Some.field-0-is in
     let is = served w.reads_each g.L.Lent.made w.says_made c.args.pool.now _ c.args.desks.now _ c.in-Ok-Some.chosen chosen in
@@ -61,6 +60,6 @@ returns g c =
     let chosen = sym c.choose.ensures ∙ c.in-Ok-Some.is ∙ ap Ok c.in-Ok-Some.field-0-is in
     let is = served w.reads_each g.L.Lent.made w.says_made c.args.pool.now _ c.args.desks.now _ c.in-Ok-Some.chosen chosen in
     let h = does w.reads_each g.L.Lent.made w.says_made _ _ c.args.desks.now _ _ _ _ is.0
-    (answers _ _ c.in-Ok-Some.chosen.0 (answer_told _ _ c.serve-answer.ensures.0)) c.serve-answer.ensures.1
-    (rw (c.lend.ensures, add-one c.in-Ok-Some.chosen.0)) in
+    (answers _ c.in-Ok-Some.chosen.0 c.served.ensures (answer_told _ _ c.serve.ensures.0)) c.serve.ensures.1
+    (rw (c.lend.ensures, c.served.ensures, add-one c.in-Ok-Some.chosen.0)) in
     record { promise = h.0; lent = h.1 }
