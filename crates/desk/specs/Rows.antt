@@ -4,9 +4,7 @@ use Rattle.std.specs.Prelude.{Option, Some as some, None as none}
 use Rattle.words.specs.declared.event.Event.{Event}
 use Rattle.words.specs.Event.{event_at}
 use Rattle.change.specs.declared.Request.{Request}
-use Rattle.desk.specs.declared.record.Desk.{Desk}
-use Rattle.desk.specs.declared.record.Desk.TheVariants.{Empty, Holding}
-use Rattle.desk.specs.Desk.{held, accepts}
+use Rattle.desk.specs.Desk.{Desk, full, held, accepts}
 use Rattle.desk.specs.Turn as d
 use Rattle.desk.specs.Turn.{Left}
 
@@ -90,5 +88,4 @@ carried [] = 0
 carried (t ∷ ts) = t.left.answer.events + carried ts
 
 abbrev pub waiting : Desk → ℕ
-waiting Empty = 0
-waiting (Holding q) = 1
+waiting d = if full d then 1 else 0
