@@ -22,18 +22,18 @@ unfolding read
 del_line = refl
 
 -- "put new 7"
-pub put_text : text (Ok (record { request = Put 7 70; outcome = New; events = 7 })) ≡ codes "put new 7\n"
+pub put_text : text (Ok (record { request = Put 7 70; outcome = Ok New; events = 7 })) ≡ codes "put new 7\n"
 unfolding digits digits_in
 put_text = refl
 
 -- "get found:70 0"
-pub get_text : text (Ok (record { request = Fetch 7; outcome = Found 70; events = 0 }))
+pub get_text : text (Ok (record { request = Fetch 7; outcome = Ok (Found 70); events = 0 }))
     ≡ codes "get found:70 0\n"
 unfolding digits digits_in
 get_text = refl
 
 -- "del absent 0"
-pub del_text : text (Ok (record { request = Delete 8; outcome = Absent; events = 0 })) ≡ codes "del absent 0\n"
+pub del_text : text (Ok (record { request = Delete 8; outcome = Ok Absent; events = 0 })) ≡ codes "del absent 0\n"
 unfolding digits digits_in
 del_text = refl
 

@@ -1,11 +1,12 @@
 -- The bounds of lines, and the room that texts take.
 use Rattle.std.proofs.Common.{◌≡◌, ◌≤◌, refl, arith, length, length-append, lit≤}
 use Rattle.std.specs.Prelude.{Result, Ok, Err}
+use Rattle.words.specs.declared.refusal.Refusal.{Refusal}
 use Rattle.words.specs.Refusals.{number}
 use Rattle.change.specs.declared.Request.{Request}
 use Rattle.change.specs.declared.Request.TheVariants.{Put, Fetch, Delete}
 use Rattle.change.specs.declared.Outcome.{Outcome}
-use Rattle.change.specs.declared.Outcome.TheVariants as o
+use Rattle.change.specs.declared.Outcome.TheVariants.{New, Replaced, Removed, Absent, Found}
 use Rattle.line.specs.declared.parsing.BadLine.{BadLine}
 use Rattle.line.specs.declared.parsing.TheConstants.{LINE_MOST}
 use Rattle.line.specs.declared.answering.TheConstants.{TEXT_MOST}
@@ -25,13 +26,13 @@ length_command (Put k v) = refl
 length_command (Fetch k) = refl
 length_command (Delete k) = refl
 
-pub length_outcome : (out : Outcome) → length (outcome_text out) ≤ 28
-length_outcome o.New = lit≤ tt
-length_outcome o.Replaced = lit≤ tt
-length_outcome o.Removed = lit≤ tt
-length_outcome o.Absent = lit≤ tt
-length_outcome (o.Found v) = omega (arith, length_digits v)
-length_outcome (o.Refused why) = omega (arith, length_digits (number why))
+pub length_outcome : (out : Result Outcome Refusal) → length (outcome_text out) ≤ 28
+length_outcome (Ok New) = lit≤ tt
+length_outcome (Ok Replaced) = lit≤ tt
+length_outcome (Ok Removed) = lit≤ tt
+length_outcome (Ok Absent) = lit≤ tt
+length_outcome (Ok (Found v)) = omega (arith, length_digits v)
+length_outcome (Err why) = omega (arith, length_digits (number why))
 
 -- every text fits in its room
 pub length_text : (told : Result Fields BadLine) → length (text told) ≤ text_most

@@ -5,11 +5,12 @@ use Rattle.std.specs.Prelude.{Option, Some, None, Result, Ok, Err}
 use Rattle.std.specs.List.{slice_split}
 use Rattle.std.specs.Str.{bytes_eq}
 use Rattle.words.specs.Tests.{within}
+use Rattle.words.specs.declared.refusal.Refusal.{Refusal}
 use Rattle.words.specs.Refusals.{number}
 use Rattle.change.specs.declared.Request.{Request}
 use Rattle.change.specs.declared.Request.TheVariants.{Put, Fetch, Delete}
 use Rattle.change.specs.declared.Outcome.{Outcome}
-use Rattle.change.specs.declared.Outcome.TheVariants as o
+use Rattle.change.specs.declared.Outcome.TheVariants.{New, Replaced, Removed, Absent, Found}
 use Rattle.line.specs.declared.parsing.BadLine.{BadLine}
 use Rattle.line.specs.declared.answering.Fields.{Fields}
 
@@ -120,13 +121,13 @@ command_text (Fetch k) = get_word
 command_text (Delete k) = del_word
 
 -- "answer (new, replaced, removed, absent, found:value, refused:number)"
-abbrev pub outcome_text : Outcome → List ℕ
-outcome_text o.New = codes "new"
-outcome_text o.Replaced = codes "replaced"
-outcome_text o.Removed = codes "removed"
-outcome_text o.Absent = codes "absent"
-outcome_text (o.Found value) = codes "found:" ++ digits value
-outcome_text (o.Refused why) = codes "refused:" ++ digits (number why)
+abbrev pub outcome_text : Result Outcome Refusal → List ℕ
+outcome_text (Ok New) = codes "new"
+outcome_text (Ok Replaced) = codes "replaced"
+outcome_text (Ok Removed) = codes "removed"
+outcome_text (Ok Absent) = codes "absent"
+outcome_text (Ok (Found value)) = codes "found:" ++ digits value
+outcome_text (Err why) = codes "refused:" ++ digits (number why)
 
 -- "put new 7": the fields of a line of output, and its newline
 abbrev pub fields_text : Fields → List ℕ

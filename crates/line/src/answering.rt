@@ -7,6 +7,7 @@ use crate::parsing::BadLine;
 use crate::writing::{write_bytes, write_number};
 use arrayvec::ArrayVec;
 use change::{Outcome, Request};
+use words::Refusal;
 
 // The bytes of a line of output, at most.
 pub const TEXT_MOST: usize = 64;
@@ -15,7 +16,7 @@ pub const TEXT_MOST: usize = 64;
 #[derive(Clone, Copy)]
 pub struct Fields {
     pub request: Request,
-    pub outcome: Outcome,
+    pub outcome: Result<Outcome, Refusal>,
     pub events: u64,
 }
 
@@ -30,20 +31,20 @@ fn command(request: Request) -> &'static [u8]
 }
 
 #[tactic(auto, using(crate::proofs::Texts::lengths, std::proofs::lemmas::Grind::common_steps))]
-fn write_outcome<const N: usize>(out: &mut ArrayVec<u8, N>, outcome: Outcome)
+fn write_outcome<const N: usize>(out: &mut ArrayVec<u8, N>, outcome: Result<Outcome, Refusal>)
     requires { array_vec_len out.old + 28 ≤ N }
     ensures { out.new.items ≡ out.old.items ++ t.outcome_text outcome }
 {
     match outcome {
-        Outcome::New => write_bytes(out, b"new"),
-        Outcome::Replaced => write_bytes(out, b"replaced"),
-        Outcome::Removed => write_bytes(out, b"removed"),
-        Outcome::Absent => write_bytes(out, b"absent"),
-        Outcome::Found(value) => {
+        Ok(Outcome::New) => write_bytes(out, b"new"),
+        Ok(Outcome::Replaced) => write_bytes(out, b"replaced"),
+        Ok(Outcome::Removed) => write_bytes(out, b"removed"),
+        Ok(Outcome::Absent) => write_bytes(out, b"absent"),
+        Ok(Outcome::Found(value)) => {
             write_bytes(out, b"found:");
             write_number(out, value);
         }
-        Outcome::Refused(why) => {
+        Err(why) => {
             write_bytes(out, b"refused:");
             write_number(out, why.number());
         }
