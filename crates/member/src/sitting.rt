@@ -1,7 +1,7 @@
 // The member at its desk: bytes are taken, and each line that they end is answered.
 use crate::failure::Failure;
 use crate::output::Output;
-use change::{Formatted, Outcome, Request};
+use change::{Outcome, Request};
 use desk::{Desk, Turned};
 use line::{BadLine, Fields, Taker};
 use std::io::Read;
@@ -34,7 +34,7 @@ impl Sitting {
         Sitting {
             pool,
             list,
-            desk: Desk::FRESH,
+            desk: None,
             last: 0,
             taker: Taker::new(),
             output: Output::new(),
@@ -101,16 +101,15 @@ impl Sitting {
 }
 
 fn make_pool(pool: &mut [u64], list: &mut [u64]) {
-    if let Formatted::Planned(events) = pool::format(pool, list, CAPACITY) {
+    if let Ok(events) = pool::format(pool, list, CAPACITY) {
         words::carry_all(pool, list, events);
     }
 }
 
 // With one desk, which the request has filled, a turn is never idle.
-fn outcome_of(turned: Turned) -> Outcome {
-    match turned {
+fn outcome_of(turned: Result<Turned, Refusal>) -> Result<Outcome, Refusal> {
+    match turned? {
         Turned::Served(outcome) => outcome,
-        Turned::Idle => Outcome::Refused(Refusal::NoDesk),
-        Turned::Refused(why) => Outcome::Refused(why),
+        Turned::Idle => Err(Refusal::NoDesk),
     }
 }
