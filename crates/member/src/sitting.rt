@@ -74,10 +74,7 @@ impl Sitting {
     }
 
     fn answer(&mut self, rt: &impl Print, line: Result<Request, BadLine>) -> Result<(), Failure> {
-        let told = match line {
-            Ok(request) => Ok(self.ask(request)),
-            Err(bad) => Err(bad),
-        };
+        let told = line.map(|request| self.ask(request));
         self.output.push(rt, told)
     }
 
