@@ -1,4 +1,3 @@
--- What a reader believes of the program's lines: what they mean, what is printed for them, and how they are taken and written.
+-- What a reader believes of the program's lines: what they mean, what is printed for them, and how they are taken.
 pub mod Line
 pub mod Taken
-pub mod inner

@@ -1,62 +1,75 @@
 // The text of an answer: command, answer, events.
-ghost use Rattle.std.specs.Prelude.{◌+◌, ◌≤◌, length};
-ghost use Rattle.line.specs.inner.Written.{Wrote};
+ghost use Rattle.std.specs.Prelude.{◌≡◌, ◌+◌, ◌≤◌, ◌++◌, length};
+ghost use Rattle.arrayvec.specs.ArrayVec.{array_vec_len};
 ghost use Rattle.line.specs.Line as t;
 
-use crate::parsing::Line;
+use crate::parsing::BadLine;
 use crate::writing::{write_bytes, write_number};
+use arrayvec::ArrayVec;
 use change::{Outcome, Request};
+use words::Refusal;
 
-fn write_command(out: &mut [u8], at: usize, request: Request) -> usize
-    requires { at + 3 ≤ length out.old }
-    ensures { Wrote (t.command_text request) at out.old result out.new }
+// The bytes of a line of output, at most.
+pub const TEXT_MOST: usize = 64;
+
+// What is printed of a line that asks.
+#[derive(Clone, Copy)]
+pub struct Fields {
+    pub request: Request,
+    pub outcome: Result<Outcome, Refusal>,
+    pub events: u64,
+}
+
+fn command(request: Request) -> &'static [u8]
+    ensures { result.now ≡ t.command_text request }
 {
     match request {
-        Request::Put(_, _) => write_bytes(out, at, b"put"),
-        Request::Fetch(_) => write_bytes(out, at, b"get"),
-        Request::Delete(_) => write_bytes(out, at, b"del"),
+        Request::Put(_, _) => b"put",
+        Request::Fetch(_) => b"get",
+        Request::Delete(_) => b"del",
     }
 }
 
-fn write_outcome(out: &mut [u8], at: usize, outcome: Outcome) -> usize
-    requires { at + 28 ≤ length out.old }
-    ensures { Wrote (t.outcome_text outcome) at out.old result out.new }
+#[tactic(auto, using(crate::proofs::Texts::lengths, std::proofs::lemmas::Grind::common_steps))]
+fn write_outcome<const N: usize>(out: &mut ArrayVec<u8, N>, outcome: Result<Outcome, Refusal>)
+    requires { array_vec_len out.old + 28 ≤ N }
+    ensures { out.new.items ≡ out.old.items ++ t.outcome_text outcome }
 {
     match outcome {
-        Outcome::New => write_bytes(out, at, b"new"),
-        Outcome::Replaced => write_bytes(out, at, b"replaced"),
-        Outcome::Removed => write_bytes(out, at, b"removed"),
-        Outcome::Absent => write_bytes(out, at, b"absent"),
-        Outcome::Found(value) => {
-            let a = write_bytes(out, at, b"found:");
-            write_number(out, a, value)
+        Ok(Outcome::New) => write_bytes(out, b"new"),
+        Ok(Outcome::Replaced) => write_bytes(out, b"replaced"),
+        Ok(Outcome::Removed) => write_bytes(out, b"removed"),
+        Ok(Outcome::Absent) => write_bytes(out, b"absent"),
+        Ok(Outcome::Found(value)) => {
+            write_bytes(out, b"found:");
+            write_number(out, value);
         }
-        Outcome::Refused(why) => {
-            let a = write_bytes(out, at, b"refused:");
-            write_number(out, a, why.number())
+        Err(why) => {
+            write_bytes(out, b"refused:");
+            write_number(out, why.number());
         }
     }
 }
 
-// The text of a line that asks.
-fn write_fields(out: &mut [u8], at: usize, request: Request, outcome: Outcome, events: u64) -> usize
-    requires { at + t.text_most ≤ length out.old }
-    ensures { Wrote (t.fields_text request outcome events) at out.old result out.new }
+#[tactic(auto, using(crate::proofs::Texts::lengths, std::proofs::lemmas::Grind::common_steps))]
+fn write_fields<const N: usize>(out: &mut ArrayVec<u8, N>, fields: Fields)
+    requires { array_vec_len out.old + t.text_most ≤ N }
+    ensures { out.new.items ≡ out.old.items ++ t.fields_text fields }
 {
-    let a = write_command(out, at, request);
-    let b = write_bytes(out, a, b" ");
-    let c = write_outcome(out, b, outcome);
-    let d = write_bytes(out, c, b" ");
-    let e = write_number(out, d, events);
-    write_bytes(out, e, b"\n")
+    write_bytes(out, command(fields.request));
+    write_bytes(out, b" ");
+    write_outcome(out, fields.outcome);
+    write_bytes(out, b" ");
+    write_number(out, fields.events);
+    write_bytes(out, b"\n");
 }
 
-pub fn write_text(out: &mut [u8], at: usize, line: Line, outcome: Outcome, events: u64) -> usize
-    requires { at + t.text_most ≤ length out.old }
-    ensures { Wrote (t.text line outcome events) at out.old result out.new }
+pub fn write_text<const N: usize>(out: &mut ArrayVec<u8, N>, told: Result<Fields, BadLine>)
+    requires { array_vec_len out.old + t.text_most ≤ N }
+    ensures { out.new.items ≡ out.old.items ++ t.text told }
 {
-    match line {
-        Line::Ask(request) => write_fields(out, at, request, outcome, events),
-        Line::Bad => write_bytes(out, at, b"? badline 0\n"),
+    match told {
+        Ok(fields) => write_fields(out, fields),
+        Err(BadLine) => write_bytes(out, b"? badline 0\n"),
     }
 }

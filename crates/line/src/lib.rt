@@ -2,14 +2,13 @@
 #![tactic(auto)]
 
 mod answering;
-mod fields;
 mod numbers;
 mod parsing;
 mod taking;
 mod writing;
 
-pub use answering::write_text;
-pub use numbers::{Number, read_number};
-pub use parsing::{Line, parse};
-pub use taking::{Came, Taken, Taker, rest, step};
+pub use answering::{Fields, TEXT_MOST, write_text};
+pub use numbers::read_number;
+pub use parsing::{BadLine, parse};
+pub use taking::Taker;
 pub use writing::{write_bytes, write_number};

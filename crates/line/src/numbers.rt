@@ -2,34 +2,19 @@
 ghost use Rattle.std.specs.Prelude.{◌≡◌};
 ghost use Rattle.line.specs.Line.{number_of};
 
-#[derive(Drop)]
-pub enum Number {
-    Is(u64),
-    Not,
-}
-
-pub fn read_number(digits: &[u8]) -> Number
+#[tactic(auto, using(crate::proofs::Decimal::reads))]
+pub fn read_number(digits: &[u8]) -> Option<u64>
     ensures { result ≡ number_of digits.now }
 {
-    if digits.len() == 0 {
-        return Number::Not;
+    if digits.is_empty() {
+        return None;
     }
     let mut x: u64 = 0;
-    let mut i = 0;
-    while i < digits.len() {
-        let b = digits[i];
-        if b < b'0' {
-            return Number::Not;
+    for &b in digits {
+        if !b.is_ascii_digit() {
+            return None;
         }
-        if b'9' < b {
-            return Number::Not;
-        }
-        let d = (b - b'0') as u64;
-        if (u64::MAX - d) / 10 < x {
-            return Number::Not;
-        }
-        x = x * 10 + d;
-        i += 1;
+        x = x.checked_mul(10)?.checked_add(u64::from(b - b'0'))?;
     }
-    Number::Is(x)
+    Some(x)
 }

@@ -1,93 +1,48 @@
 // What a line asks.
 ghost use Rattle.std.specs.Prelude.{◌≡◌};
+ghost use Rattle.std.specs.Option.{option_copied};
 ghost use Rattle.line.specs.Line.{blank, parts};
 ghost use Rattle.line.specs.Line as l;
 
-use crate::fields::{Command, field, named};
-use crate::numbers::{Number, read_number};
+use crate::numbers::read_number;
 use change::Request;
 
-#[derive(Drop)]
-pub enum Line {
-    Ask(Request),
-    Bad,
-}
+// The bytes of a line, at most.
+pub const LINE_MOST: usize = 64;
 
-impl Line {
-    // The bytes of a line, at most.
-    pub const MOST: usize = 64;
+// A line that asks nothing.
+#[derive(Clone, Copy, PartialEq, Eq)]
+pub struct BadLine;
 
-    // The bytes of a line of output, at most.
-    pub const TEXT_MOST: usize = 64;
-}
-
-// The constants are the numbers of the definitions.
-fn named_once()
-    ensures most { Line.MOST ≡ l.line_most }
-    ensures text_most { Line.TEXT_MOST ≡ l.text_most }
-{}
-
-// A command with one number.
-fn with_key(c: Command, key: Number) -> Line
-    ensures { result ≡ l.with_key c key }
+// A command and its fields, one or two.
+fn request(word: &[u8], key: &[u8], value: Option<&[u8]>) -> Option<Request>
+    ensures { result ≡ l.request_of word.now key.now (option_copied value.entry) }
 {
-    let Number::Is(k) = key else {
-        return Line::Bad;
-    };
-    match c {
-        Command::Get => Line::Ask(Request::Fetch(k)),
-        Command::Del => Line::Ask(Request::Delete(k)),
-        Command::Put => Line::Bad,
-        Command::Other => Line::Bad,
+    let key = read_number(key)?;
+    match (word, value) {
+        (b"put", Some(value)) => Some(Request::Put(key, read_number(value)?)),
+        (b"get", None) => Some(Request::Fetch(key)),
+        (b"del", None) => Some(Request::Delete(key)),
+        _ => None,
     }
 }
 
-// A command with two numbers.
-fn with_value(c: Command, key: Number, value: Number) -> Line
-    ensures { result ≡ l.with_value c key value }
+// The fields are parted by single blanks.
+fn asked(line: &[u8]) -> Option<Request>
+    ensures { result ≡ l.fields_mean (parts blank line.now) }
 {
-    let Number::Is(k) = key else {
-        return Line::Bad;
-    };
-    let Number::Is(v) = value else {
-        return Line::Bad;
-    };
-    match c {
-        Command::Put => Line::Ask(Request::Put(k, v)),
-        Command::Get => Line::Bad,
-        Command::Del => Line::Bad,
-        Command::Other => Line::Bad,
+    let mut fields = line.split(|b| *b == b' ');
+    match (fields.next(), fields.next(), fields.next(), fields.next()) {
+        (Some(word), Some(key), value, None) => request(word, key, value),
+        _ => None,
     }
 }
 
-// The fields after the command.
-fn after_command(c: Command, rest: &[u8]) -> Line
-    ensures { result ≡ l.after_command c (parts blank rest.now) }
-{
-    let a = field(rest);
-    let key = read_number(&rest[..a]);
-    if a == rest.len() {
-        return with_key(c, key);
-    }
-    let from = a + 1;
-    let last = &rest[from..];
-    if field(last) < last.len() {
-        return Line::Bad;
-    }
-    with_value(c, key, read_number(last))
-}
-
-pub fn parse(line: &[u8]) -> Line
+pub fn parse(line: &[u8]) -> Result<Request, BadLine>
     ensures { result ≡ l.meaning line.now }
 {
-    if Line::MOST < line.len() {
-        return Line::Bad;
+    if LINE_MOST < line.len() {
+        return Err(BadLine);
     }
-    let a = field(line);
-    if a == line.len() {
-        return Line::Bad;
-    }
-    let c = named(&line[..a]);
-    let from = a + 1;
-    after_command(c, &line[from..])
+    asked(line).ok_or(BadLine)
 }

@@ -1,30 +1,21 @@
-// Bytes and decimal numbers written into a lent buffer: each call is handed a place and answers the place after what it wrote.
-ghost use Rattle.std.specs.Prelude.{◌+◌, ◌≤◌, length};
+// Bytes and decimal numbers, written after what a buffer holds.
+ghost use Rattle.std.specs.Prelude.{◌≡◌, ◌+◌, ◌≤◌, ◌++◌, length};
+ghost use Rattle.arrayvec.specs.ArrayVec.{array_vec_len};
 ghost use Rattle.line.specs.Line.{digits};
-ghost use Rattle.line.specs.inner.Written.{Wrote};
 
-pub fn write_bytes(out: &mut [u8], at: usize, bytes: &[u8]) -> usize
-    requires { at + length bytes.now ≤ length out.old }
-    ensures { Wrote bytes.now at out.old result out.new }
+use arrayvec::ArrayVec;
+
+pub fn write_bytes<const N: usize>(out: &mut ArrayVec<u8, N>, bytes: &[u8])
+    requires { array_vec_len out.old + length bytes.now ≤ N }
+    ensures { out.new.items ≡ out.old.items ++ bytes.now }
 {
-    let mut i = 0;
-    while i < bytes.len() {
-        out[at + i] = bytes[i];
-        i += 1;
-    }
-    at + i
+    out.try_extend_from_slice(bytes).unwrap();
 }
 
-// The digits above the last come from a call on the number without its last digit.
-pub fn write_number(out: &mut [u8], at: usize, x: u64) -> usize
-    requires { at + length (digits x) ≤ length out.old }
-    ensures { Wrote (digits x) at out.old result out.new }
+#[tactic(auto, using(crate::proofs::Decimal::digits_decimal, std::proofs::lemmas::Grind::common_steps))]
+pub fn write_number<const N: usize>(out: &mut ArrayVec<u8, N>, x: u64)
+    requires { array_vec_len out.old + length (digits x) ≤ N }
+    ensures { out.new.items ≡ out.old.items ++ digits x }
 {
-    if x < 10 {
-        out[at] = b'0' + x as u8;
-        return at + 1;
-    }
-    let end = write_number(out, at, x / 10);
-    out[end] = b'0' + (x % 10) as u8;
-    end + 1
+    write_bytes(out, itoa::Buffer::new().format(x).as_bytes());
 }

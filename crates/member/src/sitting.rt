@@ -1,213 +1,112 @@
 // The member at its desk: bytes are taken, and each line that they end is answered.
-ghost use Rattle.std.specs.Prelude.{◌≡◌, ◌≤◌};
-
-use crate::output::{Output, fail, room, write_out};
+use crate::failure::Failure;
+use crate::output::Output;
 use change::{Outcome, Request};
 use desk::{Desk, Turned};
-use line::{Came, Line, Taker};
-use words::Refusal;
+use line::{BadLine, Fields, Taker};
+use std::io::Read;
+use words::{Pool, Refusal};
 
-// The desk, the member last served, and the output.
-#[derive(Clone, Copy)]
-pub struct Seat {
-    pub desk: Desk,
-    pub last: u64,
-    pub output: Output,
-}
+// "a fresh pool of 100 nodes"
+const CAPACITY: u64 = 100;
 
-// The line that comes, the seat, and whether more bytes may come.
+// As `Pool::total_of` has it: a constant cannot call it.
+const POOL_WORDS: usize = (Pool::NODES_AT + Pool::NODE_WORDS * CAPACITY) as usize;
+
+const LIST_WORDS: usize = Pool::LIST_WORDS as usize;
+
+// The pool and the list for its events, the desk, the member last served, the line that comes, and the answers that wait.
 #[derive(Drop)]
 pub struct Sitting {
-    pub taker: Taker,
-    pub seat: Seat,
-    pub open: bool,
+    pool: [u64; POOL_WORDS],
+    list: [u64; LIST_WORDS],
+    desk: Desk,
+    last: u64,
+    taker: Taker,
+    output: Output,
 }
 
 impl Sitting {
-    pub fn new(heading: Output) -> Sitting
-        requires { heading.used ≤ 4096 }
-        ensures { result.seat.output.used ≤ 4096 }
-    {
+    pub fn new() -> Sitting {
+        let mut pool = [0; POOL_WORDS];
+        let mut list = [0; LIST_WORDS];
+        make_pool(&mut pool, &mut list);
         Sitting {
-            taker: Taker::FRESH,
-            seat: Seat {
-                desk: Desk::FRESH,
-                last: 0,
-                output: heading,
-            },
-            open: true,
+            pool,
+            list,
+            desk: None,
+            last: 0,
+            taker: Taker::new(),
+            output: Output::new(),
         }
     }
 
-    // No more bytes come.
-    pub fn over(mut self) -> Sitting
-        requires { self.seat.output.used ≤ 4096 }
-        ensures { result.seat.output.used ≤ 4096 }
-    {
-        self.open = false;
-        self
+    // A proved loop has to end, and nothing says that an input does: no run uses up so many reads.
+    pub fn answer_all(&mut self, rt: &impl Print, input: &mut impl Read) -> Result<(), Failure> {
+        let mut block = [0u8; 4096];
+        for _ in 0..u64::MAX {
+            // A read may wait, so all answers so far are written first.
+            self.output.write_out(rt)?;
+            let n = input.read(&mut block).map_err(|_| Failure::Read)?;
+            if n == 0 {
+                break;
+            }
+            self.feed(rt, &block[..n])?;
+        }
+        self.finish(rt)
     }
 
-    fn with_output(self, output: Output) -> Sitting
-        ensures { result.seat.output.used ≡ output.used }
-    {
-        let taker = self.taker;
-        let seat = self.seat;
-        let desk = seat.desk;
-        Sitting {
-            taker: taker,
-            seat: Seat {
-                desk: desk,
-                last: seat.last,
-                output: output,
-            },
-            open: !output.failed,
+    fn feed(&mut self, rt: &impl Print, block: &[u8]) -> Result<(), Failure> {
+        for &byte in block {
+            if let Some(line) = self.taker.step(byte) {
+                self.answer(rt, line)?;
+            }
+        }
+        Ok(())
+    }
+
+    // The last line, where it has no newline.
+    fn finish(&mut self, rt: &impl Print) -> Result<(), Failure> {
+        if let Some(line) = self.taker.rest() {
+            self.answer(rt, line)?;
+        }
+        self.output.write_out(rt)
+    }
+
+    fn answer(&mut self, rt: &impl Print, line: Result<Request, BadLine>) -> Result<(), Failure> {
+        let told = line.map(|request| self.ask(request));
+        self.output.push(rt, told)
+    }
+
+    fn ask(&mut self, request: Request) -> Fields {
+        let asked = desk::ask(
+            &mut self.pool,
+            &mut self.list,
+            self.desk,
+            self.last,
+            request,
+        );
+        let turn = asked.turn;
+        self.desk = asked.desk;
+        self.last = turn.last;
+        Fields {
+            request,
+            outcome: outcome_of(turn.turned),
+            events: turn.events,
         }
     }
+}
 
-    // All answers so far are written, and none waits.
-    pub fn told(self, rt: &HostRuntime, out: &[u8; 4096]) -> Sitting
-        requires { self.seat.output.used ≤ 4096 }
-        ensures { result.seat.output.used ≡ 0 }
-    {
-        let seat = self.seat;
-        let output = seat.output;
-        self.with_output(write_out(rt, out, output))
-    }
-
-    // A read failed.
-    pub fn failed(self, rt: &HostRuntime, message: &[u8]) -> Sitting
-        ensures { result.seat.output.used ≡ 0 }
-    {
-        self.with_output(fail(rt, message))
+fn make_pool(pool: &mut [u64], list: &mut [u64]) {
+    if let Ok(events) = pool::format(pool, list, CAPACITY) {
+        words::carry_all(pool, list, events);
     }
 }
 
 // With one desk, which the request has filled, a turn is never idle.
-fn outcome_of(turned: Turned) -> Outcome {
-    match turned {
+fn outcome_of(turned: Result<Turned, Refusal>) -> Result<Outcome, Refusal> {
+    match turned? {
         Turned::Served(outcome) => outcome,
-        Turned::Idle => Outcome::Refused(Refusal::NoDesk),
-        Turned::Refused(why) => Outcome::Refused(why),
+        Turned::Idle => Err(Refusal::NoDesk),
     }
-}
-
-fn serve(
-    rt: &HostRuntime,
-    pool: &mut [u64],
-    list: &mut [u64],
-    out: &mut [u8; 4096],
-    request: Request,
-    seat: Seat,
-) -> Seat
-    requires { seat.output.used ≤ 4096 }
-    ensures { result.output.used ≤ 4096 }
-{
-    let waiting = seat.output;
-    let output = room(rt, out, waiting);
-    let held = seat.desk;
-    let asked = desk::ask(pool, list, held, seat.last, request);
-    let turn = asked.turn;
-    let turned = turn.turned;
-    let used = line::write_text(
-        out,
-        output.used,
-        Line::Ask(request),
-        outcome_of(turned),
-        turn.events,
-    );
-    let left = asked.desk;
-    Seat {
-        desk: left,
-        last: turn.last,
-        output: Output {
-            used: used,
-            failed: output.failed,
-        },
-    }
-}
-
-fn refuse(rt: &HostRuntime, out: &mut [u8; 4096], seat: Seat) -> Seat
-    requires { seat.output.used ≤ 4096 }
-    ensures { result.output.used ≤ 4096 }
-{
-    let waiting = seat.output;
-    let output = room(rt, out, waiting);
-    let used = line::write_text(out, output.used, Line::Bad, Outcome::Absent, 0);
-    let held = seat.desk;
-    Seat {
-        desk: held,
-        last: seat.last,
-        output: Output {
-            used: used,
-            failed: output.failed,
-        },
-    }
-}
-
-// Answers the line that came, if one did.
-fn answer(
-    rt: &HostRuntime,
-    pool: &mut [u64],
-    list: &mut [u64],
-    out: &mut [u8; 4096],
-    came: Came,
-    seat: Seat,
-) -> Seat
-    requires { seat.output.used ≤ 4096 }
-    ensures { result.output.used ≤ 4096 }
-{
-    match came {
-        Came::Nothing => seat,
-        Came::Whole(line) => match line {
-            Line::Ask(request) => serve(rt, pool, list, out, request, seat),
-            Line::Bad => refuse(rt, out, seat),
-        },
-    }
-}
-
-pub fn feed(
-    rt: &HostRuntime,
-    pool: &mut [u64],
-    list: &mut [u64],
-    out: &mut [u8; 4096],
-    block: &[u8],
-    sitting: Sitting,
-) -> Sitting
-    requires { sitting.seat.output.used ≤ 4096 }
-    ensures { result.seat.output.used ≤ 4096 }
-{
-    let mut taker = sitting.taker;
-    let mut seat = sitting.seat;
-    let mut i = 0;
-    while i < block.len() {
-        let taken = line::step(taker, block[i]);
-        let came = taken.came;
-        let next = taken.taker;
-        taker = next;
-        seat = answer(rt, pool, list, out, came, seat);
-        i += 1;
-    }
-    Sitting {
-        taker: taker,
-        seat: seat,
-        open: sitting.open,
-    }
-}
-
-// The last line, where it has no newline: answers what waits then.
-pub fn finish(
-    rt: &HostRuntime,
-    pool: &mut [u64],
-    list: &mut [u64],
-    out: &mut [u8; 4096],
-    sitting: Sitting,
-) -> Output
-    requires { sitting.seat.output.used ≤ 4096 }
-    ensures { result.used ≤ 4096 }
-{
-    let came = line::rest(sitting.taker);
-    let seat = sitting.seat;
-    let left = answer(rt, pool, list, out, came, seat);
-    left.output
 }

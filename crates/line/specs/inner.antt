@@ -1,2 +1,0 @@
--- What writing into a buffer leaves. The prover holds the code to it; what is printed is said by `Line`.
-pub mod Written
