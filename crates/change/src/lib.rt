@@ -4,7 +4,7 @@
 use words::Refusal;
 
 // What a desk may hold: a put of a key and a value, a fetch of a key, a delete of a key.
-#[derive(Clone, Copy)]
+#[derive(Clone, Copy, PartialEq, Eq)]
 pub enum Request {
     Put(u64, u64),
     Fetch(u64),
@@ -12,7 +12,7 @@ pub enum Request {
 }
 
 // What fetch, put and delete answer.
-#[derive(Clone, Copy)]
+#[derive(Clone, Copy, PartialEq, Eq)]
 pub enum Outcome {
     New,
     Replaced,

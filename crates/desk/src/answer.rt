@@ -2,14 +2,14 @@
 use change::Outcome;
 use words::Refusal;
 
-#[derive(Clone, Copy)]
+#[derive(Clone, Copy, PartialEq, Eq)]
 pub enum Submitted {
     Accepted,
     Refused(Refusal),
 }
 
 // A request was served, no desk was full, or the turn itself is refused.
-#[derive(Clone, Copy)]
+#[derive(Clone, Copy, PartialEq, Eq)]
 pub enum Turned {
     Served(Outcome),
     Idle,
@@ -17,7 +17,7 @@ pub enum Turned {
 }
 
 // The member served (0 for none), the events carried out, and the last served to hand to the next turn.
-#[derive(Clone, Copy)]
+#[derive(Clone, Copy, PartialEq, Eq)]
 pub struct Turn {
     pub turned: Turned,
     pub member: u64,
