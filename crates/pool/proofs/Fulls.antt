@@ -6,6 +6,7 @@ use mathlib.Core.Bool.{true, false}
 use native.Mathlib.Omega.{arith}
 use lib.ListN.{length, take, drop, get_or}
 use borrow.Author.Tests.{lt-ltb, le-ltb, eq-eqb}
+use Rattle.std.specs.Prelude.{Ok}
 use Rattle.words.specs.Pool as p
 use Rattle.words.specs.Event.{at}
 use Rattle.words.specs.declared.refusal.Refusal.TheVariants.{Damaged, NoRoom}
@@ -114,7 +115,7 @@ module _ {m : List ℕ} {key : ℕ} {s : Seat} (f : Full m key s) where
       pub full_split : needed m (take (height_of m) path) ≤ capacity_of m - used_of m
           → needed m (take (height_of m) path) ≤ p.height_most
           → put_there m key value s ≡ record {
-            answer = New;
+            answer = Ok New;
             events = plan_events (split m (get_or path 0 0) (drop 1 (take (height_of m) path)) (key, value));
           }
       unfolding put_at

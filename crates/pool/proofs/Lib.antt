@@ -1,6 +1,7 @@
 -- How the calls' returns meet their definitions, and the proofs of demands 1 and 2.
 pub mod Planning
 pub mod Gates
+pub mod Checks
 pub mod Formats
 pub mod Fetches
 pub mod Deletes

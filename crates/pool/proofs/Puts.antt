@@ -6,6 +6,7 @@ use mathlib.Core.Bool.{true, false}
 use native.Mathlib.Omega.{arith}
 use lib.ListN.{get_or, length}
 use borrow.Author.Tests.{ne_eqb}
+use Rattle.std.specs.Prelude.{Ok}
 use Rattle.words.specs.Pool.{line}
 use Rattle.words.specs.Event.{store, flush, fence}
 use Rattle.words.specs.Blocks.{once}
@@ -48,11 +49,11 @@ module _ {m : List ℕ} {key : ℕ} {s : Seat} (a : AtLeaf m key s) where
 
   module _ (value : ℕ) (above : List ℕ) where
     pub put_present : s.there ≡ true
-        → put_at m key value s.leaf above ≡ record { answer = Replaced; events = replace_events s.leaf u (key, value) }
+        → put_at m key value s.leaf above ≡ record { answer = Ok Replaced; events = replace_events s.leaf u (key, value) }
     unfolding put_at
     put_present t = rw (sym a.seated.there_is ∙ t)
 
     pub put_room : s.there ≡ false → count s.slot < entries
-        → put_at m key value s.leaf above ≡ record { answer = New; events = fill_events s.leaf u (key, value) }
+        → put_at m key value s.leaf above ≡ record { answer = Ok New; events = fill_events s.leaf u (key, value) }
     unfolding put_at
     put_room t h = rw (sym a.seated.there_is ∙ t, ne_eqb (length u.named) entries (λ e. omega (arith, named_count)))

@@ -8,9 +8,8 @@ ghost use Rattle.pool.specs.Promises.{PutPromise};
 ghost use Rattle.pool.specs.inner.Passing.{Admitted};
 ghost use Rattle.pool.specs.inner.Puts.{Replaces, Fills, put_there};
 
-use crate::answers::quiet;
 use crate::crowded::put_full;
-use crate::gate::{Gate, pass_gate};
+use crate::gate::{pass_gate, pass_list};
 use change::{Answer, Outcome};
 use node::Node;
 use node::slot::{count, name, spot, with_name};
@@ -42,37 +41,38 @@ fn fill(list: &mut [u64], leaf: u64, slot: u64, rank: u64, key: u64, value: u64)
 }
 
 // The leaf of the key was found.
-fn put_at(pool: &[u64], list: &mut [u64], seat: Seat, key: u64, value: u64) -> Answer
+fn put_at(
+    pool: &[u64],
+    list: &mut [u64],
+    seat: Seat,
+    key: u64,
+    value: u64,
+) -> Result<Answer, Refusal>
     requires { Admitted pool.now key seat × (p.list_words ≤ length list.old) }
     ensures answer { result ≡ answered (put_there pool.now key value seat) }
     ensures list { list.new ≡ list_after (put_there pool.now key value seat) list.old }
 {
     if seat.there {
         let events = replace(list, seat.leaf, seat.slot, seat.rank, value);
-        return Answer {
+        return Ok(Answer {
             outcome: Outcome::Replaced,
             events,
-        };
+        });
     }
     if count(seat.slot) < Node::ENTRIES {
         let events = fill(list, seat.leaf, seat.slot, seat.rank, key, value);
-        return Answer {
+        return Ok(Answer {
             outcome: Outcome::New,
             events,
-        };
+        });
     }
     put_full(pool, list, seat, key, value)
 }
 
-pub fn put(pool: &[u64], list: &mut [u64], key: u64, value: u64) -> Answer
+pub fn put(pool: &[u64], list: &mut [u64], key: u64, value: u64) -> Result<Answer, Refusal>
     ensures { PutPromise pool.now list.old key value result list.new }
 {
-    if (list.len() as u64) < Pool::LIST_WORDS {
-        return quiet(Outcome::Refused(Refusal::ShortList));
-    }
-    let gate = pass_gate(pool, key);
-    match gate {
-        Gate::Refused(why) => quiet(Outcome::Refused(why)),
-        Gate::Passed(seat) => put_at(pool, list, seat, key, value),
-    }
+    pass_list(list)?;
+    let seat = pass_gate(pool, key)?;
+    put_at(pool, list, seat, key, value)
 }

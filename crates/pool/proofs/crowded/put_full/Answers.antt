@@ -48,7 +48,7 @@ returns-then-free-needed c =
     = let none : height_of c.args.pool.now - height_of c.args.pool.now ≡ 0 = omega arith in
     rw none at c.nodes_needed-needed.ensures.0 in
     let f = c.requires.0 in
-    let both = quiet_answer _ _ _ c.quiet.ensures (full_crowded f c.path_to-path.ensures _ (rw needed_is at c.if-free-needed.true)) in
+    let both = quiet_answer _ _ _ (full_crowded f c.path_to-path.ensures _ (rw needed_is at c.if-free-needed.true)) in
     record { answer = both.0; list = both.1 }
 
 pub returns-then-needed-gt-HEIGHT_MOST : goal.returns-then-needed-gt-HEIGHT_MOST
@@ -59,7 +59,7 @@ returns-then-needed-gt-HEIGHT_MOST c =
     rw none at c.nodes_needed-needed.ensures.0 in
     let f = c.requires.0 in
     let room = rw needed_is at c.if-free-needed.false in
-    let both = quiet_answer _ _ _ c.quiet-then-needed-gt-HEIGHT_MOST.ensures (full_high f c.path_to-path.ensures _ room (rw
+    let both = quiet_answer _ _ _ (full_high f c.path_to-path.ensures _ room (rw
     needed_is at c.if-needed-gt-HEIGHT_MOST.true)) in
     record { answer = both.0; list = both.1 }
 
