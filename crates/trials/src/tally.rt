@@ -38,10 +38,10 @@ fn may_count(outcome: Outcome, events: u64) -> bool {
     match outcome {
         Outcome::New => matches!(events, 7 | 46..=186),
         Outcome::Replaced | Outcome::Removed => events == 3,
-        Outcome::Absent | Outcome::Found(_) | Outcome::Refused(_) => events == 0,
+        Outcome::Absent | Outcome::Found(_) => events == 0,
     }
 }
 
-pub fn agree(want: Outcome, got: &Answer) -> bool {
+pub fn agree(want: Outcome, got: Answer) -> bool {
     got.outcome == want && may_count(want, got.events)
 }

@@ -3,7 +3,7 @@ use crate::asking::{LIST_WORDS, POOL_WORDS, make, serve};
 use crate::model::Model;
 use crate::rows::Part;
 use crate::tally::{Tally, agree};
-use change::{Outcome, Request};
+use change::Request;
 use words::{Pool, Refusal};
 
 // A pool and its list, and beside them the records that it should hold and what came so far.
@@ -20,13 +20,12 @@ impl Trial {
     fn step(&mut self, request: Request) {
         let want = self.model.expected(request);
         let answer = serve(&mut self.pool, &mut self.list, request);
-        self.tally.events = self.tally.events.wrapping_add(answer.events);
-        if answer.outcome == Outcome::Refused(Refusal::NoRoom) {
-            self.tally.refused = self.tally.refused.wrapping_add(1);
-        } else if agree(want, &answer) {
-            self.model.apply(request);
-        } else {
-            self.tally.differ = self.tally.differ.wrapping_add(1);
+        let events = answer.map_or(0, |answer| answer.events);
+        self.tally.events = self.tally.events.wrapping_add(events);
+        match answer {
+            Ok(answer) if agree(want, answer) => self.model.apply(request),
+            Err(Refusal::NoRoom) => self.tally.refused = self.tally.refused.wrapping_add(1),
+            _ => self.tally.differ = self.tally.differ.wrapping_add(1),
         }
     }
 
