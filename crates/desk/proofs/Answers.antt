@@ -2,42 +2,41 @@
 use mathlib.Core.Path.{◌≡◌, refl, ap}
 use lib.ListN.{drop}
 use lib.Dec.{eqb}
-use Rattle.std.specs.Prelude.{if◌then◌else◌}
+use Rattle.std.specs.Prelude.{Result, Ok, Err, if◌then◌else◌}
+use Rattle.words.specs.declared.refusal.Refusal.{Refusal}
 use Rattle.words.specs.Event.{at}
 use Rattle.words.specs.Kinds as k
 use Rattle.words.specs.Answers.{Said}
 use Rattle.words.proofs.Answers.{told, refusal_of, refusal_back}
-use Rattle.change.proofs.Answers.{outcome_of, outcome_back}
-use Rattle.desk.specs.declared.answer.Submitted.{Submitted}
-use Rattle.desk.specs.declared.answer.Submitted.TheVariants as s
+use Rattle.change.proofs.Answers.{outcome_read, outcome_back}
 use Rattle.desk.specs.declared.answer.Turned.{Turned}
-use Rattle.desk.specs.declared.answer.Turned.TheVariants.{Served, Idle, Refused}
+use Rattle.desk.specs.declared.answer.Turned.TheVariants.{Served, Idle}
 use Rattle.desk.specs.declared.answer.Turn.{Turn}
 use Rattle.desk.specs.Answers.{submit_says, turned_says, turn_says}
 
-submit_of : Said → Submitted
-submit_of x = if eqb x.0 k.accepted then s.Accepted else s.Refused (refusal_of x.1)
+submit_of : Said → Result Unit Refusal
+submit_of x = if eqb x.0 k.accepted then Ok tt else Err (refusal_of x.1)
 
-submit_back : (r : Submitted) → submit_of (submit_says r) ≡ r
+submit_back : (r : Result Unit Refusal) → submit_of (submit_says r) ≡ r
 unfolding submit_of
-submit_back s.Accepted = refl
-submit_back (s.Refused why) = ap s.Refused (refusal_back why)
+submit_back (Ok x) = refl
+submit_back (Err why) = ap Err (refusal_back why)
 
-pub submit_told : (r s : Submitted) → submit_says r ≡ submit_says s → r ≡ s
+pub submit_told : (r s : Result Unit Refusal) → submit_says r ≡ submit_says s → r ≡ s
 submit_told = told submit_says submit_of submit_back
 
-abbrev turned_of : Said → Turned
+abbrev turned_of : Said → Result Turned Refusal
 turned_of x =
-    if eqb x.0 k.served then Served (outcome_of (at x.2 0, x.1, drop 1 x.2))
-    else if eqb x.0 k.idle then Idle
-    else Refused (refusal_of x.1)
+    if eqb x.0 k.served then Ok (Served (outcome_read (at x.2 0, x.1, drop 1 x.2)))
+    else if eqb x.0 k.idle then Ok Idle
+    else Err (refusal_of x.1)
 
-turned_back : (r : Turned) → turned_of (turned_says r) ≡ r
-turned_back (Served o) = ap Served (outcome_back o)
-turned_back Idle = refl
-turned_back (Refused why) = ap Refused (refusal_back why)
+turned_back : (r : Result Turned Refusal) → turned_of (turned_says r) ≡ r
+turned_back (Ok (Served o)) = ap (λ x. Ok (Served x)) (outcome_back o)
+turned_back (Ok Idle) = refl
+turned_back (Err why) = ap Err (refusal_back why)
 
-pub turned_told : (r s : Turned) → turned_says r ≡ turned_says s → r ≡ s
+pub turned_told : (r s : Result Turned Refusal) → turned_says r ≡ turned_says s → r ≡ s
 turned_told = told turned_says turned_of turned_back
 
 turn_of : Said → Turn
@@ -47,7 +46,7 @@ turn_of x =
 turn_back : (r : Turn) → turn_of (turn_says r) ≡ r
 unfolding turn_of
 turn_back r =
-    ap (λ (x : Turned). record { turned = x; member = r.member; events = r.events; last = r.last }) (turned_back r.turned)
+    ap (λ (x : Result Turned Refusal). record { turned = x; member = r.member; events = r.events; last = r.last }) (turned_back r.turned)
 
 pub turn_told : (r s : Turn) → turn_says r ≡ turn_says s → r ≡ s
 turn_told = told turn_says turn_of turn_back

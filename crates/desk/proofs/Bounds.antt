@@ -11,7 +11,7 @@ use Rattle.words.proofs.Tests.{both, within_says}
 use Rattle.desk.specs.Desk.{desks_most, may_submit, may_turn}
 
 pub not_both : (b : Bool) → b ≡ true → b ≡ false → ⊥
-not_both b p q = let z : ◌≡◌ {A = ℕ} 0 1 = cc in omega arith
+not_both b p q = cc
 
 -- the desks are 1 to 16
 pub may_turn_true : (n last : ℕ) → may_turn n last ≡ true → (1 ≤ n) × (n ≤ desks_most) × (last ≤ n)
@@ -19,6 +19,14 @@ may_turn_true n last t =
     let a = both {a = within 1 n desks_most} {b = leb last n} t in
     let b = within_says 1 n desks_most a.0 in
     (b.0, b.1, leb-true last n a.1)
+
+-- where one of these fails, the turn is refused
+pub no_turn : (n last : ℕ) → ((1 ≤ n) × (n ≤ desks_most) × (last ≤ n) → ⊥) → may_turn n last ≡ false
+no_turn n last f = go (may_turn n last) refl
+  where
+    go : (b : Bool) → may_turn n last ≡ b → b ≡ false
+    go true t = absurd (f (may_turn_true n last t))
+    go false t = refl
 
 pub turn_may : (n last : ℕ) → 1 ≤ n → n ≤ desks_most → last ≤ n → may_turn n last ≡ true
 turn_may n last a b c = rw (le-leb 1 n a, le-leb n desks_most b, le-leb last n c)

@@ -10,8 +10,7 @@ use lib.ListN.{length, get_or-eq_default}
 use borrow.Author.Tests.{lt-ltb, le-ltb}
 use Rattle.words.specs.Lists.{count_from}
 use Rattle.std.specs.Prelude.{if◌then◌else◌}
-use Rattle.desk.specs.declared.record.Desk.{Desk}
-use Rattle.desk.specs.Desk.{fresh, full, held, first_full, choose}
+use Rattle.desk.specs.Desk.{Desk, fresh, full, held, first_full, choose}
 use Rattle.desk.proofs.Bounds.{not_both}
 
 -- how far member j is after `last`, going round M members: 1 to M
@@ -65,7 +64,7 @@ pub dist_self : (M k : ℕ) → dist M k k ≡ M
 dist_self M k = rw (le-ltb k k (omega arith)) (omega arith)
 
 fresh_full : full fresh ≡ true → ⊥
-fresh_full h = let z : ◌≡◌ {A = ℕ} 0 1 = cc in omega arith
+fresh_full h = cc
 
 module _ (ds : List Desk) where
   pub full_range : (j : ℕ) → full (held ds j) ≡ true → (1 ≤ j) × (j ≤ length ds)
@@ -100,7 +99,7 @@ module _ (ds : List Desk) where
       go true t k x = first_in {k = i} (omega arith) (omega arith) t (λ j a b. absurd (omega arith))
       go false t k x = rest t k x
 
-  skip : (a b : List ℕ) → first_full ds a ≡ 0 → first_full ds (a ++ b) ≡ first_full ds b
+  pub skip : (a b : List ℕ) → first_full ds a ≡ 0 → first_full ds (a ++ b) ≡ first_full ds b
   unfolding first_full
   skip [] b h = refl
   skip (j ∷ a) b h = go (full (held ds j)) refl (skip a b)
@@ -110,7 +109,7 @@ module _ (ds : List Desk) where
       go true t f = let h' : j ≡ 0 = rw t at h in absurd (omega (arith, full_range j t))
       go false t f = f (rw t at h)
 
-  stay : (a b : List ℕ) → 1 ≤ first_full ds a → first_full ds (a ++ b) ≡ first_full ds a
+  pub stay : (a b : List ℕ) → 1 ≤ first_full ds a → first_full ds (a ++ b) ≡ first_full ds a
   unfolding first_full
   stay [] b h = absurd (omega arith)
   stay (j ∷ a) b h = go (full (held ds j)) refl (stay a b)

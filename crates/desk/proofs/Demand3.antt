@@ -6,20 +6,23 @@ use mathlib.Core.List.{List, [], ◌∷◌, ◌++◌}
 use mathlib.Core.Bool.{true, false}
 use native.Mathlib.Omega.{arith}
 use lib.ListN.{length, take}
+use Rattle.std.specs.Prelude.{None, Some, Result, Ok}
 use Rattle.words.specs.Pool.{list_words, events_most}
 use Rattle.words.specs.Event.{Event, run}
 use Rattle.words.specs.Carry.{AllDone}
 use Rattle.words.specs.Loss.{Safe}
 use Rattle.words.specs.Cuts.{Found}
+use Rattle.words.specs.declared.refusal.Refusal.{Refusal}
 use Rattle.words.proofs.Loss.{settled_safe}
+use Rattle.change.specs.Gate.{outcome_of}
+use Rattle.change.specs.declared.Outcome.{Outcome}
+use Rattle.change.proofs.Refused.{outcome_answered}
 use Rattle.change.specs.declared.Request.{Request}
 use Rattle.change.specs.declared.Answer.{Answer}
 use Rattle.change.specs.Calls.{serve_answer}
-use Rattle.desk.specs.declared.record.Desk.{Desk}
-use Rattle.desk.specs.declared.record.Desk.TheVariants.{Empty, Holding}
-use Rattle.desk.specs.declared.answer.Submitted.TheVariants.{Accepted}
+use Rattle.desk.specs.declared.answer.Turned.{Turned}
 use Rattle.desk.specs.declared.answer.Turned.TheVariants.{Served, Idle}
-use Rattle.desk.specs.Desk.{fresh, full, held, accepts}
+use Rattle.desk.specs.Desk.{Desk, fresh, full, held, accepts}
 use Rattle.desk.specs.Turn.{Left, as_handed, submit_answer, submit_desks}
 use Rattle.desk.specs.Rows.{our_way, House, Call, submit, turn, Seen, step, after, turns, listed, events_of, carried}
 use Rattle.desk.specs.Demand3.{Pools, InTime, Ruled, idle, by_rule, no_room, AllRuled, Given, Ready, Settled, Demand3}
@@ -47,8 +50,8 @@ each_first (suc M) (t ∷ ts) h =
 
 -- a desk that is not full is a fresh one
 not_full : (d : Desk) → full d ≡ false → d ≡ fresh
-not_full Empty e = refl
-not_full (Holding q) e = absurd (not_both true refl e)
+not_full None e = refl
+not_full (Some q) e = absurd (not_both true refl e)
 
 module _ (P : Pools) (K : Promise P) where
   each_few : (r : List Call) (h : House) → Given P r → Ready P h → Each (turns our_way h r)
@@ -72,15 +75,16 @@ module _ (P : Pools) (K : Promise P) where
       x : Kept P h.pool l q
       x = kept P K h l k q y room e
 
-      says : Served (serve_answer h.pool l q).outcome ≡ Served x.plan.answer
-      says = ap (λ (z : Answer). Served z.outcome) x.answer_is
+      says : ◌≡◌ {A = Result Turned Refusal} (Ok (Served (outcome_of (serve_answer h.pool l q)))) (Ok (Served x.plan.answer))
+      says = ap (λ (z : Result Answer Refusal). Ok (Served (outcome_of z))) x.answer_is
+          ∙ ap (λ (z : Result Outcome Refusal). Ok (Served z)) (outcome_answered x.plan)
 
       after_is : P.map_of t.pool ≡ P.map_of (run h.pool x.plan.events)
       after_is = ap P.map_of (pool_is x)
 
       go : Answers P h.pool q x.plan → Ruled P (seen_by h t) (P.map_of h.pool) (P.map_of t.pool)
-      go (inl (o, m)) = by_rule q e (says ∙ ap Served o) refl (after_is ∙ m)
-      go (inr (o, lacks, m)) = no_room q e (says ∙ ap Served o) refl lacks (after_is ∙ m)
+      go (inl (o, m)) = by_rule q e (says ∙ ap (λ x. Ok (Served x)) o) refl (after_is ∙ m)
+      go (inr (o, lacks, m)) = no_room q e (says ∙ ap (λ x. Ok (Served x)) o) refl lacks (after_is ∙ m)
 
   all_ruled : (r : List Call) (h : House) → Given P r → Ready P h
       → AllRuled P (turns our_way h r) (P.map_of h.pool) (P.map_of (after our_way h r).pool)
@@ -99,7 +103,7 @@ module _ (P : Pools) (K : Promise P) where
       × (t.left.pool ≡ run t.handed.pool (events_of t))
       × ((w : ℕ) → w < length t.handed.pool → Safe t.handed.pool (events_of t) w)
 
-  carries_none : (h : House) (l : List ℕ) → Carried (seen_by h (as_handed h.pool l h.last Idle))
+  carries_none : (h : House) (l : List ℕ) → Carried (seen_by h (as_handed h.pool l h.last (Ok Idle)))
   unfolding listed AllDone
   carries_none h l = (refl, tt, refl, λ w s. settled_safe h.pool [] w tt)
 
@@ -120,7 +124,7 @@ module _ (P : Pools) (K : Promise P) where
       (n : ℕ) (m : List ℕ) → Found P.recovery h.pool (events_of (seen_by h t)) n m
       → Settled P h.pool (events_of (seen_by h t)) t.pool n m
 
-  cutting_none : (h : House) (l : List ℕ) → Ready P h → Cutting h (as_handed h.pool l h.last Idle)
+  cutting_none : (h : House) (l : List ℕ) → Ready P h → Cutting h (as_handed h.pool l h.last (Ok Idle))
   unfolding listed
   cutting_none h l y n m c = K.rests h.pool n m y.good c
 
@@ -136,7 +140,7 @@ module _ (P : Pools) (K : Promise P) where
     y₁ : Ready P (after our_way h r)
     y₁ = ready_after P K r h g y
 
-    timely : (s : List Call) (j : ℕ) (q : Request) → P.Fits q → Given P s → submit_answer (after our_way h r).desks j ≡ Accepted
+    timely : (s : List Call) (j : ℕ) (q : Request) → P.Fits q → Given P s → submit_answer (after our_way h r).desks j ≡ Ok tt
         → let ts = turns our_way (step our_way (after our_way h r) (submit j q)) s in
         length h.desks ≤ length ts → InTime (length h.desks) j q ts
     timely s j q fq fs t enough = go (turns our_way h₂ s) refl (rw long at (fate s h₂ j q (lent P s fs) (sits P y₂) there))
@@ -156,7 +160,7 @@ module _ (P : Pools) (K : Promise P) where
         ok : accepts ds j ≡ true
         ok = accepted_is ds j t
 
-        there : held (submit_desks ds j q) j ≡ Holding q
+        there : held (submit_desks ds j q) j ≡ Some q
         there = submit_there ds j q ok
 
         long : length (submit_desks ds j q) ≡ M

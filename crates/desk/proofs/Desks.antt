@@ -8,15 +8,12 @@ use native.Mathlib.Decide.{ℕ_discrete}
 use lib.ListN.{length, set, get_or, length-set}
 use lib.Seq.{get_or-set_same, get_or-set_other}
 use borrow.Author.Tests.{not-true}
-use Rattle.std.specs.Prelude.{if◌then◌else◌}
+use Rattle.std.specs.Prelude.{Err, Ok, Result, Some, if◌then◌else◌}
 use Rattle.words.proofs.Tests.{both}
+use Rattle.words.specs.declared.refusal.Refusal.{Refusal}
 use Rattle.words.specs.declared.refusal.Refusal.TheVariants.{NoDesk, FullDesk}
 use Rattle.change.specs.declared.Request.{Request}
-use Rattle.desk.specs.declared.record.Desk.{Desk}
-use Rattle.desk.specs.declared.record.Desk.TheVariants.{Holding}
-use Rattle.desk.specs.declared.answer.Submitted.{Submitted}
-use Rattle.desk.specs.declared.answer.Submitted.TheVariants.{Accepted, Refused}
-use Rattle.desk.specs.Desk.{fresh, full, held, with_desk, may_submit, accepts}
+use Rattle.desk.specs.Desk.{Desk, fresh, full, held, with_desk, may_submit, accepts}
 use Rattle.desk.specs.Turn.{submit_answer, submit_desks}
 use Rattle.desk.proofs.Bounds.{not_both, may_submit_true}
 
@@ -44,28 +41,28 @@ accepts_true ds j t =
     let b = may_submit_true (length ds) j a.0 in
     (b.2, b.3, not-true (full (held ds j)) a.1)
 
-pub accepted_is : (ds : List Desk) (j : ℕ) → submit_answer ds j ≡ Accepted → accepts ds j ≡ true
+pub accepted_is : (ds : List Desk) (j : ℕ) → submit_answer ds j ≡ Ok tt → accepts ds j ≡ true
 unfolding submit_answer
 accepted_is ds j = go (may_submit (length ds) j) (full (held ds j))
   where
-    go : (a b : Bool) → ◌≡◌ {A = Submitted} (if not a then Refused NoDesk else if b then Refused FullDesk else Accepted) Accepted
+    go : (a b : Bool) → ◌≡◌ {A = Result Unit Refusal} (if not a then Err NoDesk else if b then Err FullDesk else Ok tt) (Ok tt)
         → (a && not b) ≡ true
-    go true true e = let z : ◌≡◌ {A = ℕ} 0 1 = cc in absurd (omega arith)
+    go true true e = cc
     go true false e = refl
-    go false b e = let z : ◌≡◌ {A = ℕ} 0 1 = cc in absurd (omega arith)
+    go false b e = cc
 
 module _ (ds : List Desk) (i : ℕ) (p : Request) where
   pub length_submit : length (submit_desks ds i p) ≡ length ds
   unfolding submit_desks
   length_submit = go (accepts ds i)
     where
-      go : (b : Bool) → length (if b then with_desk ds i (Holding p) else ds) ≡ length ds
-      go true = length_with ds i (Holding p)
+      go : (b : Bool) → length (if b then with_desk ds i (Some p) else ds) ≡ length ds
+      go true = length_with ds i (Some p)
       go false = refl
 
-  pub submit_there : accepts ds i ≡ true → held (submit_desks ds i p) i ≡ Holding p
+  pub submit_there : accepts ds i ≡ true → held (submit_desks ds i p) i ≡ Some p
   unfolding submit_desks
-  submit_there t = let a = accepts_true ds i t in rw t (with_same ds i (Holding p) a.0 a.1)
+  submit_there t = let a = accepts_true ds i t in rw t (with_same ds i (Some p) a.0 a.1)
 
   pub submit_none : accepts ds i ≡ false → submit_desks ds i p ≡ ds
   unfolding submit_desks
@@ -75,15 +72,15 @@ module _ (ds : List Desk) (i : ℕ) (p : Request) where
   unfolding submit_desks
   submit_other j n = go (accepts ds i)
     where
-      go : (b : Bool) → held (if b then with_desk ds i (Holding p) else ds) j ≡ held ds j
-      go true = with_other ds i j (Holding p) n
+      go : (b : Bool) → held (if b then with_desk ds i (Some p) else ds) j ≡ held ds j
+      go true = with_other ds i j (Some p) n
       go false = refl
 
   -- a full desk keeps its request, whatever is submitted
-  pub submit_keeps : (j : ℕ) (q : Request) → held ds j ≡ Holding q → held (submit_desks ds i p) j ≡ Holding q
+  pub submit_keeps : (j : ℕ) (q : Request) → held ds j ≡ Some q → held (submit_desks ds i p) j ≡ Some q
   submit_keeps j q h = go (accepts ds i) refl (ℕ_discrete i j)
     where
-      go : (b : Bool) → accepts ds i ≡ b → Dec (i ≡ j) → held (submit_desks ds i p) j ≡ Holding q
+      go : (b : Bool) → accepts ds i ≡ b → Dec (i ≡ j) → held (submit_desks ds i p) j ≡ Some q
       go true t (yes e) =
           let x : full (held ds j) ≡ false = rw e at (accepts_true ds i t).2 in
           absurd (not_both (full (held ds j)) (rw h) x)

@@ -6,11 +6,13 @@ use native.Mathlib.Omega.{arith}
 use native.Mathlib.Decide.{ℕ_discrete}
 use lib.ListN.{length}
 use borrow.Author.Tests.{eq-eqb, ne_eqb}
+use Rattle.std.specs.Prelude.{Some, Result, Ok}
 use Rattle.words.specs.Pool.{list_words}
+use Rattle.words.specs.declared.refusal.Refusal.{Refusal}
+use Rattle.change.specs.Gate.{outcome_of}
 use Rattle.change.specs.declared.Request.{Request}
 use Rattle.change.specs.declared.Outcome.{Outcome}
 use Rattle.change.specs.Calls.{serve_answer}
-use Rattle.desk.specs.declared.record.Desk.TheVariants.{Holding}
 use Rattle.desk.specs.declared.answer.Turned.TheVariants.{Served}
 use Rattle.desk.specs.Desk.{fresh, full, held, with_desk}
 use Rattle.desk.specs.Turn.{Left, serve_desk, submit_desks}
@@ -43,8 +45,8 @@ pub record Waits (M last j : ℕ) (ts : List Seen) : Type 0 where
 
 pub data Fate (M last j : ℕ) (q : Request) : List Seen → Type 0 where
   waits : {ts : List Seen} → Waits M last j ts → Fate M last j q ts
-  comes : {ts : List Seen} (before : List Seen) (its : Seen) (rest : List Seen) (o : Outcome) → ts ≡ before ++ its ∷ rest
-      → its.left.answer.turned ≡ Served o → member_of its ≡ j → desk_of its ≡ Holding q → Waits M last j before → Fate M last j q ts
+  comes : {ts : List Seen} (before : List Seen) (its : Seen) (rest : List Seen) (o : Result Outcome Refusal) → ts ≡ before ++ its ∷ rest
+      → its.left.answer.turned ≡ Ok (Served o) → member_of its ≡ j → desk_of its ≡ Some q → Waits M last j before → Fate M last j q ts
 
 start : (M last j : ℕ) → last ≤ M → 1 ≤ j → j ≤ M → Waits M last j []
 start M last j l a b = record { short = (dist_range M last l j a b).0; once = λ k p. omega arith; never = λ k p q r. refl }
@@ -80,7 +82,7 @@ module _ (M last j : ℕ) (t : Seen) (l : last ≤ M) (a : 1 ≤ member_of t) (b
       comes (t ∷ before) its rest o (ap (λ (l : List Seen). t ∷ l) e) a m h (nearer before w)
 
 -- whatever the row
-pub fate : (r : List Call) (h : House) (j : ℕ) (q : Request) → Lent r → Sits h → held h.desks j ≡ Holding q
+pub fate : (r : List Call) (h : House) (j : ℕ) (q : Request) → Lent r → Sits h → held h.desks j ≡ Some q
     → Fate (length h.desks) h.last j q (turns our_way h r)
 unfolding turns
 fate [] h j q lent s e =
@@ -104,16 +106,16 @@ fate (turn l ∷ r) h j q (room, lent) s e =
     Rest : Left → Type 0
     Rest t = Fate (length (left_by h t).desks) (left_by h t).last j q (turns our_way (left_by h t) r)
 
-    serve : (k : ℕ) (p : Request) → 1 ≤ k → k ≤ M → held h.desks k ≡ Holding p → dist M h.last k ≤ dist M h.last j → Dec (k ≡ j)
-        → let t = serve_desk h.pool l h.last k (Holding p) in (held (left_by h t).desks j ≡ Holding q → Rest t)
+    serve : (k : ℕ) (p : Request) → 1 ≤ k → k ≤ M → held h.desks k ≡ Some p → dist M h.last k ≤ dist M h.last j → Dec (k ≡ j)
+        → let t = serve_desk h.pool l h.last k (Some p) in (held (left_by h t).desks j ≡ Some q → Rest t)
         → Fate M h.last j q (seen_by h t ∷ turns our_way (left_by h t) r)
     serve k p a b f n (yes x) ih =
-        let t = serve_desk h.pool l h.last k (Holding p) in
-        let f' : held h.desks k ≡ Holding q = rw (← x) at e in
-        comes [] (seen_by h t) (turns our_way (left_by h t) r) (serve_answer h.pool l p).outcome refl refl x f'
+        let t = serve_desk h.pool l h.last k (Some p) in
+        let f' : held h.desks k ≡ Some q = rw (← x) at e in
+        comes [] (seen_by h t) (turns our_way (left_by h t) r) (outcome_of (serve_answer h.pool l p)) refl refl x f'
         (start M h.last j last_is g.0 g.1)
     serve k p a b f n (no x) ih =
-        let t = serve_desk h.pool l h.last k (Holding p) in
+        let t = serve_desk h.pool l h.last k (Some p) in
         let m : length (with_desk h.desks k fresh) ≡ M = length_with h.desks k fresh in
         let y : Fate M k j q (turns our_way (left_by h t) r) = rw m at (ih (with_other h.desks k j fresh x ∙ e)) in
         let apart = strict (λ u. x (dist_same M h.last last_is k j a b g.0 g.1 u)) in
@@ -122,7 +124,7 @@ fate (turn l ∷ r) h j q (room, lent) s e =
         strict : (dist M h.last k ≡ dist M h.last j → ⊥) → dist M h.last k < dist M h.last j
         strict u = omega arith
 
-    go : (t : Left) → Took h l t → ((t : Left) → Took h l t → held (left_by h t).desks j ≡ Holding q → Rest t)
+    go : (t : Left) → Took h l t → ((t : Left) → Took h l t → held (left_by h t).desks j ≡ Some q → Rest t)
         → Fate M h.last j q (seen_by h t ∷ turns our_way (left_by h t) r)
     go t (nobody_full f) ih = absurd (not_both (full (held h.desks j)) (rw e) (f j))
     go t (one_served k p a b f n) ih = serve k p a b f (n j (rw e)) (ℕ_discrete k j) (ih t (one_served k p a b f n))

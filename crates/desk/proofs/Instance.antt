@@ -4,6 +4,7 @@ use mathlib.Core.Path.{◌≡◌}
 use mathlib.Core.List.{[], ◌∷◌}
 use native.Mathlib.Omega.{arith}
 use lib.ListN.{replicate, length-replicate}
+use Rattle.std.specs.Prelude.{None, Some}
 use Rattle.words.specs.Pool.{list_words}
 use Rattle.node.specs.View.{no_end}
 use Rattle.change.specs.declared.Request.{Request}
@@ -11,7 +12,6 @@ use Rattle.change.specs.declared.Request.TheVariants.{Put, Fetch}
 use Rattle.change.specs.Calls.{key_of}
 use Rattle.change.specs.Sums.{seven}
 use Rattle.pool.proofs.Instance.{seven_well_formed}
-use Rattle.desk.specs.declared.record.Desk.TheVariants.{Empty, Holding}
 use Rattle.desk.specs.Desk.{held}
 use Rattle.desk.specs.Rows.{our_way, House}
 use Rattle.desk.specs.Demand3.{Ready, Demand3}
@@ -20,14 +20,14 @@ use Rattle.desk.proofs.OurPools.{demand_3}
 
 -- three desks: a put that splits the full leaf waits, and a fetch; nobody was served yet
 abbrev three : House
-three = record { pool = seven 3; desks = Holding (Put 80 80) ∷ Empty ∷ Holding (Fetch 30) ∷ []; last = 0 }
+three = record { pool = seven 3; desks = Some (Put 80 80) ∷ None ∷ Some (Fetch 30) ∷ []; last = 0 }
 
-fit : (j : ℕ) (q : Request) → held three.desks j ≡ Holding q → key_of q < no_end
-fit zero q e = let z : ◌≡◌ {A = ℕ} 0 1 = cc in absurd (omega arith)
+fit : (j : ℕ) (q : Request) → held three.desks j ≡ Some q → key_of q < no_end
+fit zero q e = cc
 fit (suc zero) q e = let i : Put 80 80 ≡ q = cc in rw (← i) (omega arith)
-fit (suc (suc zero)) q e = let z : ◌≡◌ {A = ℕ} 0 1 = cc in absurd (omega arith)
+fit (suc (suc zero)) q e = cc
 fit (suc (suc (suc zero))) q e = let i : Fetch 30 ≡ q = cc in rw (← i) (omega arith)
-fit (suc (suc (suc (suc j)))) q e = let z : ◌≡◌ {A = ℕ} 0 1 = cc in absurd (omega arith)
+fit (suc (suc (suc (suc j)))) q e = cc
 
 pub ready : Ready our_pools three
 ready = record {

@@ -1,10 +1,11 @@
 -- Laws of desks and turns, and the proof of demand 3.
 pub mod Answers
 pub mod Bounds
-pub mod Round
+pub mod LentDesks
 pub mod Looking
 pub mod Served
 pub mod TwoSteps
+pub mod Tight
 pub mod Choose
 pub mod Desks
 pub mod Submits
@@ -17,7 +18,6 @@ pub mod Ready
 pub mod Demand3
 pub mod Wrong
 pub mod Cases
-pub mod Tight
 pub mod OurPools
 pub mod Instance
 pub mod Refused

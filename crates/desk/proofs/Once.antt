@@ -7,10 +7,8 @@ use native.Mathlib.Omega.{arith}
 use native.Mathlib.Decide.{ℕ_discrete}
 use lib.Dec.{eqb}
 use borrow.Author.Tests.{eq-eqb, ne_eqb}
-use Rattle.std.specs.Prelude.{if◌then◌else◌}
-use Rattle.desk.specs.declared.record.Desk.{Desk}
-use Rattle.desk.specs.declared.record.Desk.TheVariants.{Empty, Holding}
-use Rattle.desk.specs.Desk.{fresh, full, held, with_desk, accepts}
+use Rattle.std.specs.Prelude.{None, Some, if◌then◌else◌}
+use Rattle.desk.specs.Desk.{Desk, fresh, full, held, with_desk, accepts}
 use Rattle.desk.specs.Turn.{Left, submit_desks}
 use Rattle.desk.specs.Rows.{our_way, House, Call, submit, turn, step, after, turns, accepted, times, waiting}
 use Rattle.desk.proofs.Bounds.{not_both}
@@ -19,8 +17,8 @@ use Rattle.desk.proofs.Took.{Sits, left_by, seen_by, turn_in, Took, nobody_full,
 use Rattle.desk.proofs.Fair.{Lent, times_here, times_other}
 
 not_waiting : (d : Desk) → full d ≡ false → waiting d ≡ 0
-not_waiting Empty e = refl
-not_waiting (Holding q) e = absurd (not_both true refl e)
+not_waiting None e = refl
+not_waiting (Some q) e = absurd (not_both true refl e)
 
 pub each_once : (r : List Call) (h : House) (j : ℕ) → Lent r → Sits h → 1 ≤ j
     → times j (turns our_way h r) + waiting (held (after our_way h r).desks j) ≡ accepted our_way j h r + waiting (held h.desks j)

@@ -5,6 +5,7 @@ use mathlib.Core.Logic.{inl, inr, ⊎_elim}
 use mathlib.Core.List.{List, []}
 use native.Mathlib.Omega.{arith}
 use lib.ListN.{length}
+use Rattle.std.specs.Prelude.{Ok}
 use Rattle.words.specs.Pool.{list_words}
 use Rattle.words.specs.Event.{Event}
 use Rattle.words.specs.Written.{written}
@@ -17,7 +18,7 @@ use Rattle.tree.specs.WellFormed.{WellFormed}
 use Rattle.tree.specs.Map.{Map, map_of}
 use Rattle.change.specs.declared.Request.{Request}
 use Rattle.change.specs.declared.Outcome.{Outcome}
-use Rattle.change.specs.Gate.{Planned, refused, answered, list_after}
+use Rattle.change.specs.Gate.{Planned, refused, answered, events_of, list_after}
 use Rattle.change.specs.Recover.{recovery}
 use Rattle.change.specs.Room.{Crowded}
 use Rattle.change.specs.Calls.{serve, key_of}
@@ -54,6 +55,7 @@ module _ {m : List ℕ} (w : WellFormed m) where
     plan = refused NoRoom;
     answer_is = ap answered e;
     list_is = ap (λ (p : Planned Outcome). list_after p l) e;
+    counts = ap (λ (p : Planned Outcome). events_of (answered p)) e;
     few = omega arith;
     listed = tt;
     unrefused = tt;
@@ -64,12 +66,13 @@ module _ {m : List ℕ} (w : WellFormed m) where
     cuts = rests;
   }
 
-  done_kept : (l : List ℕ) (q : Request) → (serve (length l) m q).answer ≡ (rule q (map_of m)).0
+  done_kept : (l : List ℕ) (q : Request) → (serve (length l) m q).answer ≡ Ok (rule q (map_of m)).0
       → Changes m l (serve (length l) m q) (map_of m) (rule q (map_of m)).1 → Kept our_pools m l q
   done_kept l q a c = record {
     plan = serve (length l) m q;
     answer_is = refl;
     list_is = refl;
+    counts = demand_2.counts m l q;
     few = demand_2.few m l q;
     listed = c.carried.listed;
     unrefused = c.carried.unrefused;

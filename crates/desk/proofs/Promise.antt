@@ -4,6 +4,7 @@ use mathlib.Core.Path.{◌≡◌, refl, ap}
 use mathlib.Core.Logic.{◌⊎◌}
 use mathlib.Core.List.{List, [], ◌∷◌}
 use lib.ListN.{length}
+use Rattle.std.specs.Prelude.{Ok, Err}
 use Rattle.words.specs.Pool.{list_words, events_most}
 use Rattle.words.specs.Event.{Event, run}
 use Rattle.words.specs.Written.{Lists}
@@ -12,11 +13,9 @@ use Rattle.words.specs.Loss.{Safe}
 use Rattle.words.specs.Cuts.{Found}
 use Rattle.words.specs.declared.refusal.Refusal.TheVariants.{NoRoom}
 use Rattle.change.specs.Rule.{rule}
-use Rattle.change.specs.Gate.{Planned, answered, list_after}
+use Rattle.change.specs.Gate.{Planned, answered, events_of, list_after}
 use Rattle.change.specs.declared.Request.{Request}
 use Rattle.change.specs.declared.Outcome.{Outcome}
-use Rattle.change.specs.declared.Outcome.TheVariants.{Refused}
-use Rattle.change.specs.declared.Answer.{Answer}
 use Rattle.change.specs.Calls.{serve_answer, serve_list}
 use Rattle.desk.specs.Rows.{listed}
 use Rattle.desk.specs.Demand3.{Pools, Settled}
@@ -25,14 +24,15 @@ module _ (P : Pools) where
   -- the outcome is the map's rule's, or 5 where the nodes lack, which changes nothing
   abbrev pub Answers : List ℕ → Request → Planned Outcome → Type 0
   Answers m q p =
-      ((p.answer ≡ (rule q (P.map_of m)).0) × (P.map_of (run m p.events) ≡ (rule q (P.map_of m)).1))
-      ⊎ ((p.answer ≡ Refused NoRoom) × P.Lacks m q × (P.map_of (run m p.events) ≡ P.map_of m))
+      ((p.answer ≡ Ok (rule q (P.map_of m)).0) × (P.map_of (run m p.events) ≡ (rule q (P.map_of m)).1))
+      ⊎ ((p.answer ≡ Err NoRoom) × P.Lacks m q × (P.map_of (run m p.events) ≡ P.map_of m))
 
   -- serving q on the pool m with the list l is this plan, written from the list's first word on
   pub record Kept (m l : List ℕ) (q : Request) : Type 0 where
     pub plan : Planned Outcome
     pub answer_is : serve_answer m l q ≡ answered plan
     pub list_is : serve_list m l q ≡ list_after plan l
+    pub counts : events_of (serve_answer m l q) ≡ length plan.events
     pub few : length plan.events ≤ events_most
     pub listed : Lists (list_after plan l) 1 plan.events
     pub unrefused : AllDone m (list_after plan l) 1 (length plan.events)
@@ -60,10 +60,10 @@ module _ {P : Pools} {m l : List ℕ} {q : Request} (k : Kept P m l q) where
   planned = k.plan.events
 
   abbrev pub count : ℕ
-  count = (serve_answer m l q).events
+  count = events_of (serve_answer m l q)
 
   pub count_is : count ≡ length planned
-  count_is = ap (λ (a : Answer). a.events) k.answer_is
+  count_is = k.counts
 
   abbrev pub left : List ℕ
   left = serve_list m l q

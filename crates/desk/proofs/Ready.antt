@@ -3,12 +3,11 @@ use Prim.Native.Nat.{ℕ, ◌≤◌}
 use mathlib.Core.Path.{◌≡◌, refl, sym, ◌∙◌, subst}
 use mathlib.Core.List.{List, [], ◌∷◌, ◌++◌}
 use mathlib.Core.Bool.{Bool, true, false}
-use native.Mathlib.Omega.{arith}
 use native.Mathlib.Decide.{ℕ_discrete}
 use lib.ListN.{length}
+use Rattle.std.specs.Prelude.{Some}
 use Rattle.words.specs.Pool.{list_words}
 use Rattle.change.specs.declared.Request.{Request}
-use Rattle.desk.specs.declared.record.Desk.TheVariants.{Holding}
 use Rattle.desk.specs.Desk.{fresh, held, with_desk, accepts}
 use Rattle.desk.specs.Turn.{Left, submit_desks}
 use Rattle.desk.specs.Rows.{our_way, House, Call, submit, turn, step, after}
@@ -50,17 +49,17 @@ module _ (P : Pools) where
       }
     where
       go : (b : Bool) → accepts h.desks j ≡ b → (i : ℕ) (p : Request) → Dec (j ≡ i)
-          → held (submit_desks h.desks j q) i ≡ Holding p → P.Fits p
+          → held (submit_desks h.desks j q) i ≡ Some p → P.Fits p
       go true t i p (yes e) g =
-          let s : held (submit_desks h.desks j q) i ≡ Holding q =
-          subst (λ (x : ℕ). held (submit_desks h.desks j q) x ≡ Holding q) e (submit_there h.desks j q t) in
+          let s : held (submit_desks h.desks j q) i ≡ Some q =
+          subst (λ (x : ℕ). held (submit_desks h.desks j q) x ≡ Some q) e (submit_there h.desks j q t) in
           let k : q ≡ p = cc in
           rw k at f
       go true t i p (no e) g = y.fit i p (sym (submit_other h.desks j q i e) ∙ g)
       go false t i p d g = y.fit i p (rw (submit_none h.desks j q t) at g)
 
   module _ (K : Promise P) where
-    pub kept : (h : House) (l : List ℕ) (k : ℕ) (q : Request) → Ready P h → list_words ≤ length l → held h.desks k ≡ Holding q
+    pub kept : (h : House) (l : List ℕ) (k : ℕ) (q : Request) → Ready P h → list_words ≤ length l → held h.desks k ≡ Some q
         → Kept P h.pool l q
     kept h l k q y room e = K.serves h.pool l q y.good (y.fit k q e) room
 
@@ -77,11 +76,11 @@ module _ (P : Pools) where
           fit = λ i p. still i p (ℕ_discrete k i);
         }
       where
-        still : (i : ℕ) (p : Request) → Dec (k ≡ i) → held (with_desk h.desks k fresh) i ≡ Holding p → P.Fits p
+        still : (i : ℕ) (p : Request) → Dec (k ≡ i) → held (with_desk h.desks k fresh) i ≡ Some p → P.Fits p
         still i p (yes d) g =
             let s : held (with_desk h.desks k fresh) i ≡ fresh =
             subst (λ (x : ℕ). held (with_desk h.desks k fresh) x ≡ fresh) d (with_same h.desks k fresh a b) in
-            let z : ◌≡◌ {A = ℕ} 0 1 = cc in absurd (omega arith)
+            cc
         still i p (no d) g = y.fit i p (sym (with_other h.desks k i fresh d) ∙ g)
 
     pub ready_after : (r : List Call) (h : House) → Given P r → Ready P h → Ready P (after our_way h r)

@@ -7,7 +7,7 @@ use mathlib.Core.Bool.{Bool, true, false, not, ◌&&◌}
 use native.Mathlib.Omega.{arith}
 use lib.ListN.{length, get_or, set}
 use lib.Dec.{ltb}
-use Rattle.std.specs.Prelude.{if◌then◌else◌}
+use Rattle.std.specs.Prelude.{Err, None, Ok, Result, Some, if◌then◌else◌}
 use Rattle.words.specs.Refusals.{number}
 use Rattle.words.specs.Carry.{after_all}
 use Rattle.words.specs.declared.refusal.Refusal.{Refusal}
@@ -16,19 +16,17 @@ use Rattle.words.proofs.Tests.{Tells, is, isnt}
 use Rattle.words.proofs.Fails.{row, not_tells, tells_less, fails_most, fails_within, fails_and, not_out}
 use Rattle.change.specs.declared.Request.{Request}
 use Rattle.change.specs.declared.Request.TheVariants.{Put, Fetch, Delete}
-use Rattle.change.specs.declared.Outcome.{Outcome}
-use Rattle.change.specs.declared.Outcome.TheVariants as o
+use Rattle.change.specs.declared.Answer.{Answer}
+use Rattle.change.specs.Gate.{outcome_of}
+use Rattle.change.specs.Fetch.{fetch}
+use Rattle.change.proofs.Refused.{outcome_answered}
 use Rattle.change.specs.Answers.{outcome_says}
 use Rattle.change.specs.Calls.{serve_answer, serve_list}
 use Rattle.change.specs.Conditions.{Says, ShortList}
 use Rattle.pool.proofs.Demand1.{demand_1, some_number}
-use Rattle.desk.specs.declared.record.Desk.{Desk}
-use Rattle.desk.specs.declared.record.Desk.TheVariants.{Empty, Holding}
-use Rattle.desk.specs.declared.answer.Submitted.{Submitted}
-use Rattle.desk.specs.declared.answer.Submitted.TheVariants as s
 use Rattle.desk.specs.declared.answer.Turned.{Turned}
-use Rattle.desk.specs.declared.answer.Turned.TheVariants.{Served, Idle, Refused}
-use Rattle.desk.specs.Desk.{full, held, with_desk, fresh, may_submit, may_turn, choose}
+use Rattle.desk.specs.declared.answer.Turned.TheVariants.{Served}
+use Rattle.desk.specs.Desk.{Desk, full, held, with_desk, fresh, may_submit, may_turn, choose}
 use Rattle.desk.specs.Turn.{Left, submit_answer, submit_desks, as_handed, serve_desk, serve_turn, turn}
 use Rattle.desk.specs.Answers.{submit_says, turned_says}
 use Rattle.desk.specs.Rows.{our_way}
@@ -37,11 +35,11 @@ use Rattle.desk.proofs.Choose.{full_range}
 use Rattle.desk.proofs.Served.{by}
 
 -- the desk of a member, by its place
-held_is : (ds : List Desk) (j : ℕ) → 1 ≤ j → held ds j ≡ get_or ds (j - 1) Empty
+held_is : (ds : List Desk) (j : ℕ) → 1 ≤ j → held ds j ≡ get_or ds (j - 1) None
 held_is ds zero h = absurd (omega arith)
 held_is ds (suc i) h = let e : suc i - 1 ≡ i = omega arith in rw e refl
 
-with_is : (ds : List Desk) (j : ℕ) → 1 ≤ j → with_desk ds j fresh ≡ set ds (j - 1) Empty
+with_is : (ds : List Desk) (j : ℕ) → 1 ≤ j → with_desk ds j fresh ≡ set ds (j - 1) None
 with_is ds zero h = absurd (omega arith)
 with_is ds (suc i) h = let e : suc i - 1 ≡ i = omega arith in rw e refl
 
@@ -50,28 +48,28 @@ submit_numbers : (ds : List Desk) (member : ℕ) → Says ((w.NoMember ds member
     (submit_says (submit_answer ds member)).1
 unfolding submit_answer
 submit_numbers ds member =
-    row 9 ((w.FullDesk ds member, 10) ∷ []) (λ x. (submit_says x).1) (s.Refused NoDesk) _
+    row 9 ((w.FullDesk ds member, 10) ∷ []) (λ x. (submit_says x).1) (Err NoDesk) _
     (not_tells (fails_and (fails_within 1 (length ds) 16) (fails_within 1 member (length ds)))) refl
-    (λ n. row 10 [] (λ x. (submit_says x).1) (s.Refused FullDesk) s.Accepted
+    (λ n. row 10 [] (λ x. (submit_says x).1) (Err FullDesk) (Ok tt)
     (tells_full (not_out 1 member (length ds) (λ o. n (inr o))).0) refl (λ n. refl))
   where
     tells_full : 1 ≤ member → Tells (w.FullDesk ds member) (full (held ds member))
-    tells_full h = rw (held_is ds member h) (go (get_or ds (member - 1) Empty))
+    tells_full h = rw (held_is ds member h) (go (get_or ds (member - 1) None))
       where
-        go : (d : Desk) → Tells ((q : Request) × (d ≡ Holding q)) (full d)
-        go Empty = isnt (λ x. let e = x.1 in let z : ◌≡◌ {A = ℕ} 0 1 = cc in omega arith)
-        go (Holding q) = is (q, refl)
+        go : (d : Desk) → Tells ((q : Request) × (d ≡ Some q)) (full d)
+        go None = isnt (λ x. let e = x.1 in cc)
+        go (Some q) = is (q, refl)
 
-submit_kept : (ds : List Desk) (member : ℕ) (q : Request) (why : Refusal) → submit_answer ds member ≡ s.Refused why
+submit_kept : (ds : List Desk) (member : ℕ) (q : Request) (why : Refusal) → submit_answer ds member ≡ Err why
     → submit_desks ds member q ≡ ds
 unfolding submit_answer submit_desks
 submit_kept ds member q why = go (may_submit (length ds) member) (full (held ds member))
   where
     go : (a b : Bool)
-        → ◌≡◌ {A = Submitted} (if not a then s.Refused NoDesk else if b then s.Refused FullDesk else s.Accepted) (s.Refused why)
-        → (if a && not b then with_desk ds member (Holding q) else ds) ≡ ds
+        → ◌≡◌ {A = Result Unit Refusal} (if not a then Err NoDesk else if b then Err FullDesk else Ok tt) (Err why)
+        → (if a && not b then with_desk ds member (Some q) else ds) ≡ ds
     go true true e = refl
-    go true false e = let z : ◌≡◌ {A = ℕ} 0 1 = cc in absurd (omega arith)
+    go true false e = cc
     go false b e = refl
 
 -- what a turn serves, past 1
@@ -79,9 +77,9 @@ past_one : {C R : Type 0} {n : ℕ} → ¬ C → (C × (n ≡ 1)) ⊎ ((¬ C) ×
 past_one n (inl c) = absurd (n c.0)
 past_one n (inr h) = h.1
 
-request_numbers : (m l : List ℕ) (q : Request) → ¬ ShortList l → Says (w.request_rows m q) (outcome_says (serve_answer m l q).outcome).1
+request_numbers : (m l : List ℕ) (q : Request) → ¬ ShortList l → Says (w.request_rows m q) (outcome_says (outcome_of (serve_answer m l q))).1
 request_numbers m l (Put key value) n = past_one n (demand_1.put m l key value)
-request_numbers m l (Fetch key) n = demand_1.fetch m key
+request_numbers m l (Fetch key) n = rw (outcome_answered (fetch m key)) (demand_1.fetch m key)
 request_numbers m l (Delete key) n = past_one n (demand_1.delete m l key)
 
 -- a refusal among them is 2 to 5
@@ -123,8 +121,8 @@ module _ (m l : List ℕ) (ds : List Desk) (last : ℕ) where
       (λ n. row 1 [] (λ (x : Left). w.itself_says x.answer.turned) _ _ (tells_less (length l) 372) refl (λ n. go (held ds k)))
     where
       go : (d : Desk) → w.itself_says (serve_desk m l last k d).answer.turned ≡ 0
-      go Empty = refl
-      go (Holding q) = refl
+      go None = refl
+      go (Some q) = refl
 
   -- then those of the request that is served
   whole_numbers : Says ((w.NoTurn ds last, 9) ∷ (ShortList l, 1) ∷ w.desk_rows m (held ds k)) (turned_says left.answer.turned).1
@@ -135,22 +133,22 @@ module _ (m l : List ℕ) (ds : List Desk) (last : ℕ) where
       (go (held ds k)))
     where
       go : (d : Desk) → ¬ ShortList l → Says (w.desk_rows m d) (turned_says (serve_desk m l last k d).answer.turned).1
-      go Empty n = refl
-      go (Holding q) n = request_numbers m l q n
+      go None n = refl
+      go (Some q) n = request_numbers m l q n
 
   -- a turn that is itself refused
-  refused_is : (why : Refusal) → left.answer.turned ≡ Refused why → left ≡ as_handed m l last (Refused why)
+  refused_is : (why : Refusal) → left.answer.turned ≡ Err why → left ≡ as_handed m l last (Err why)
   unfolding serve_turn
   refused_is why = go (not (may_turn (length ds) last)) (ltb (length l) 372) (held ds k)
     where
-      go : (a b : Bool) (d : Desk) → (by m l (length ds) last k a b d).answer.turned ≡ Refused why
-          → by m l (length ds) last k a b d ≡ as_handed m l last (Refused why)
+      go : (a b : Bool) (d : Desk) → (by m l (length ds) last k a b d).answer.turned ≡ Err why
+          → by m l (length ds) last k a b d ≡ as_handed m l last (Err why)
       go true b d e = ap (as_handed m l last) e
       go false true d e = ap (as_handed m l last) e
-      go false false Empty e = let z : ◌≡◌ {A = ℕ} 0 1 = cc in absurd (omega arith)
-      go false false (Holding q) e = let z : ◌≡◌ {A = ℕ} 0 1 = cc in absurd (omega arith)
+      go false false None e = cc
+      go false false (Some q) e = cc
 
-  as_handed_is : (why : Refusal) → left.answer.turned ≡ Refused why → w.AsHanded our_way m l ds last
+  as_handed_is : (why : Refusal) → left.answer.turned ≡ Err why → w.AsHanded our_way m l ds last
   as_handed_is why r =
       let e = refused_is why r in
       record {
@@ -166,37 +164,36 @@ module _ (m l : List ℕ) (ds : List Desk) (last : ℕ) where
   record Serves (why : Refusal) : Type 0 where
     q : Request
     long : ¬ ShortList l
-    desk_is : held ds k ≡ Holding q
-    left_is : left ≡ serve_desk m l last k (Holding q)
-    outcome_is : (serve_answer m l q).outcome ≡ o.Refused why
+    desk_is : held ds k ≡ Some q
+    left_is : left ≡ serve_desk m l last k (Some q)
+    answer_is : serve_answer m l q ≡ Err why
 
-  serves : (why : Refusal) → left.answer.turned ≡ Served (o.Refused why) → Serves why
+  serves : (why : Refusal) → left.answer.turned ≡ Ok (Served (Err why)) → Serves why
   unfolding serve_turn
   serves why = go (not (may_turn (length ds) last)) (tells_less (length l) 372) (held ds k) refl refl
     where
-      outcome_of : Turned → Outcome
-      outcome_of (Served outcome) = outcome
-      outcome_of Idle = o.Absent
-      outcome_of (Refused x) = o.Absent
+      refused_of : (a : Result Answer Refusal) → ◌≡◌ {A = Result Turned Refusal} (Ok (Served (outcome_of a))) (Ok (Served (Err why))) → a ≡ Err why
+      refused_of (Ok a) e = cc
+      refused_of (Err x) e = let same : x ≡ why = cc in ap Err same
 
       go : (a : Bool) {b : Bool} → Tells (ShortList l) b → (d : Desk) → held ds k ≡ d → left ≡ by m l (length ds) last k a b d
-          → (by m l (length ds) last k a b d).answer.turned ≡ Served (o.Refused why) → Serves why
-      go true t d f x e = let z : ◌≡◌ {A = ℕ} 0 1 = cc in absurd (omega arith)
-      go false (is c) d f x e = let z : ◌≡◌ {A = ℕ} 0 1 = cc in absurd (omega arith)
-      go false (isnt n) Empty f x e = let z : ◌≡◌ {A = ℕ} 0 1 = cc in absurd (omega arith)
-      go false (isnt n) (Holding q) f x e =
-          record { q = q; long = n; desk_is = f; left_is = x; outcome_is = ap outcome_of e }
+          → (by m l (length ds) last k a b d).answer.turned ≡ Ok (Served (Err why)) → Serves why
+      go true t d f x e = cc
+      go false (is c) d f x e = cc
+      go false (isnt n) None f x e = cc
+      go false (isnt n) (Some q) f x e =
+          record { q = q; long = n; desk_is = f; left_is = x; answer_is = refused_of (serve_answer m l q) e }
 
-  answered_is : (why : Refusal) → left.answer.turned ≡ Served (o.Refused why) → w.Answered our_way m l ds last why
+  answered_is : (why : Refusal) → left.answer.turned ≡ Ok (Served (Err why)) → w.Answered our_way m l ds last why
   unfolding after_all
   answered_is why r =
       let x = serves why r in
       let q = x.q in
       let e = x.left_is in
-      let kept = demand_1.serve_refused m l q why x.outcome_is in
+      let kept = demand_1.serve_refused m l q why x.answer_is in
       let range = full_range ds k (ap full x.desk_is) in
       let says : Says (w.request_rows m q) (number why) =
-      rw x.outcome_is at (request_numbers m l q x.long) in
+      rw x.answer_is at (request_numbers m l q x.long) in
       record {
         request = q;
         member = k;

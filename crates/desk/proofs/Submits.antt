@@ -1,73 +1,84 @@
--- What the parts of submit make of the desks is what submit leaves.
-use Prim.Native.Nat.{ℕ, suc, ◌-◌, ◌≤◌, ◌<◌}
-use mathlib.Core.Path.{◌≡◌, refl}
-use mathlib.Core.List.{List}
-use mathlib.Core.Bool.{Bool, true, false, not}
+-- What the steps of a submit come to is what submit answers and leaves.
+use Prim.Native.Nat.{ℕ, suc, ◌-◌, ◌<◌}
+use mathlib.Core.Path.{◌≡◌, refl, ◌∙◌, ap}
+use mathlib.Core.List.{List, map}
+use mathlib.Core.Bool.{Bool, true, false}
 use native.Mathlib.Omega.{arith}
-use lib.ListN.{length, get_or, set}
-use Rattle.std.specs.Prelude.{if◌then◌else◌}
+use lib.ListN.{length, get_or}
+use Rattle.std.specs.Prelude.{if◌then◌else◌, Some, Result, Ok, Err}
+use Rattle.words.specs.declared.refusal.Refusal.{Refusal}
 use Rattle.words.specs.declared.refusal.Refusal.TheVariants.{NoDesk, FullDesk}
 use Rattle.change.specs.declared.Request.{Request}
-use Rattle.desk.specs.declared.record.Desk.{Desk}
-use Rattle.desk.specs.declared.record.Desk.TheVariants.{Empty, Holding}
-use Rattle.desk.specs.declared.answer.Submitted.TheVariants.{Accepted, Refused}
-use Rattle.desk.specs.declared.submitting.Filled.{Filled}
-use Rattle.desk.specs.Desk.{fresh, full, may_submit}
+use Rattle.desk.specs.Desk.{Desk, full, held, with_desk, may_submit, accepts}
 use Rattle.desk.specs.Turn.{submit_answer, submit_desks}
-use Rattle.desk.specs.inner.Parts.{filled, emptied}
+use Rattle.desk.specs.Answers.{submit_says}
+use Rattle.desk.specs.Lent.{laid}
+use Rattle.desk.specs.Promises.{SubmitPromise}
 use Rattle.desk.proofs.Bounds.{may_submit_true}
-use Rattle.desk.proofs.Desks.{set_self}
+use Rattle.desk.proofs.LentDesks.{length_reads, held_reads, with_reads}
 
--- the place of a member's desk, or the number of desks
-abbrev pub place : ℕ → ℕ → ℕ
-place n j = if may_submit n j then j - 1 else n
+-- the place of a member's desk
+abbrev pub place : ℕ → ℕ → Result ℕ Refusal
+place n j = if may_submit n j then Ok (j - 1) else Err NoDesk
 
-pub no_place : (n j : ℕ) → n ≤ place n j → may_submit n j ≡ false
-no_place n j = go (may_submit n j) refl
+no_place : (n j : ℕ) (why : Refusal) → place n j ≡ Err why → (may_submit n j ≡ false) × (why ≡ NoDesk)
+no_place n j why = go (may_submit n j)
   where
-    go : (b : Bool) → may_submit n j ≡ b → n ≤ (if b then j - 1 else n) → b ≡ false
-    go true t h = absurd (omega (arith, may_submit_true n j t))
-    go false t h = refl
+    go : (b : Bool) → (if b then Ok (j - 1) else Err NoDesk) ≡ Err why → (b ≡ false) × (why ≡ NoDesk)
+    go true e = cc
+    go false e = (refl, cc)
 
-pub some_place : (n j : ℕ) → place n j < n → (may_submit n j ≡ true) × (suc (place n j) ≡ j)
-some_place n j = go (may_submit n j) refl
+a_place : (n j i : ℕ) → place n j ≡ Ok i → (may_submit n j ≡ true) × (suc i ≡ j) × (i < n)
+a_place n j i = go (may_submit n j) refl
   where
-    go : (b : Bool) → may_submit n j ≡ b → (if b then j - 1 else n) < n → (b ≡ true) × (suc (if b then j - 1 else n) ≡ j)
-    go true t h = (refl, omega (arith, may_submit_true n j t))
-    go false t h = absurd (omega arith)
+    go : (b : Bool) → may_submit n j ≡ b → (if b then Ok (j - 1) else Err NoDesk) ≡ Ok i → (b ≡ true) × (suc i ≡ j) × (i < n)
+    go true t e =
+        let m = may_submit_true n j t in
+        let p : j - 1 ≡ i = cc in
+        (refl, omega arith, omega arith)
+    go false t e = cc
 
--- the desk at a place is filled
-fills_at : (ds : List Desk) (i : ℕ) (q : Request) → may_submit (length ds) (suc i) ≡ true → let f = filled (get_or ds i fresh) q in
-    (f.answer ≡ submit_answer ds (suc i)) × (set ds i f.desk ≡ submit_desks ds (suc i) q)
-unfolding submit_answer submit_desks
-fills_at ds i q may = rw may (go (get_or ds i fresh) refl)
-  where
-    go : (d : Desk) → get_or ds i fresh ≡ d
-        → ((filled d q).answer ≡ (if full d then Refused FullDesk else Accepted))
-        × (set ds i (filled d q).desk ≡ (if not (full d) then set ds i (Holding q) else ds))
-    go Empty e = (refl, refl)
-    go (Holding p) e = (refl, rw e at (set_self ds i))
+-- of a lent list
+module _ {A : Type 0} {says : A → Desk} {reads : List A → List Desk} (each : (ds : List A) → reads ds ≡ map says ds)
+    (made : Desk → A) (back : (d : Desk) → says (made d) ≡ d) (ds : List A) (j : ℕ) (q : Request) where
+  abbrev after : List A
+  after = laid reads made ds j q
 
-module _ (ds : List Desk) (j i : ℕ) (is : i ≡ place (length ds) j) where
-  module _ (q : Request) where
-    pub refuses : length ds ≤ i → (Refused NoDesk ≡ submit_answer ds j) × (ds ≡ submit_desks ds j q)
-    unfolding submit_answer submit_desks
-    refuses h = let none = no_place (length ds) j (rw is at h) in (rw none, rw none)
+  -- read as desks, it is the submit of these
+  read : reads after ≡ submit_desks (reads ds) j q
+  unfolding submit_desks
+  read = go (accepts (reads ds) j)
+    where
+      go : (b : Bool) → reads (if b then with_desk ds j (made (Some q)) else ds)
+          ≡ (if b then with_desk (reads ds) j (Some q) else reads ds)
+      go true = with_reads each ds j (made (Some q)) ∙ ap (with_desk (reads ds) j) (back (Some q))
+      go false = refl
 
-    pub fills : (f : Filled) → i < length ds → f ≡ filled (get_or ds i fresh) q
-        → (f.answer ≡ submit_answer ds j) × (set ds i f.desk ≡ submit_desks ds j q)
-    fills f h e =
-        let p = some_place (length ds) j (rw is at h) in
-        let at : suc i ≡ j = rw is p.1 in
-        rw (← at, e) (fills_at ds i q (rw at p.0))
+  abbrev Does : Result Unit Refusal → List A → Type 0
+  Does r ds' = SubmitPromise (reads ds) j q r (reads ds') × (ds' ≡ after)
 
-  pub stays : length ds ≤ i → ds ≡ emptied ds j
-  unfolding emptied
-  stays h = rw (no_place (length ds) j (rw is at h))
+  does : (r : Result Unit Refusal) (ds' : List A) → r ≡ submit_answer (reads ds) j → ds' ≡ after → Does r ds'
+  does r ds' e f = ((ap submit_says e, ap reads f ∙ read), f)
 
-  pub empties : i < length ds → set ds i fresh ≡ emptied ds j
-  unfolding emptied
-  empties h =
-      let p = some_place (length ds) j (rw is at h) in
-      let at : suc i ≡ j = rw is p.1 in
-      rw (p.0, ← at)
+  pub nobody : (why : Refusal) → place (length ds) j ≡ Err why → Does (Err why) ds
+  unfolding submit_answer
+  nobody why e =
+      let t = no_place (length ds) j why e in
+      does (Err why) ds (rw (length_reads each, t.0, t.1)) (rw (length_reads each, t.0))
+
+  module _ (i : ℕ) (x : A) (is : place (length ds) j ≡ Ok i) (at : x ≡ get_or ds i x) where
+    held_is : held (reads ds) j ≡ says x
+    held_is = let p = a_place (length ds) j i is in rw (← p.1) (held_reads each ds i x p.2 at)
+
+    pub keeps : full (says x) ≡ true → Does (Err FullDesk) ds
+    unfolding submit_answer
+    keeps f =
+        let t = (a_place (length ds) j i is).0 in
+        does (Err FullDesk) ds (rw (length_reads each, t, held_is, f)) (rw (length_reads each, t, held_is, f))
+
+    pub lays : full (says x) ≡ false → Does (Ok tt) (with_desk ds (suc i) (made (Some q)))
+    unfolding submit_answer
+    lays f =
+        let p = a_place (length ds) j i is in
+        does (Ok tt) (with_desk ds (suc i) (made (Some q)))
+        (rw (length_reads each, p.0, held_is, f)) (rw (length_reads each, p.0, held_is, f, ← p.1))

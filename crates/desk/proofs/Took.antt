@@ -5,12 +5,11 @@ use mathlib.Core.List.{List}
 use mathlib.Core.Bool.{true, false}
 use lib.ListN.{length}
 use borrow.Author.Tests.{le-ltb}
+use Rattle.std.specs.Prelude.{None, Some, Ok}
 use Rattle.words.specs.Pool.{list_words}
 use Rattle.change.specs.declared.Request.{Request}
-use Rattle.desk.specs.declared.record.Desk.{Desk}
-use Rattle.desk.specs.declared.record.Desk.TheVariants.{Empty, Holding}
 use Rattle.desk.specs.declared.answer.Turned.TheVariants.{Idle}
-use Rattle.desk.specs.Desk.{fresh, full, held, with_desk, may_turn, choose}
+use Rattle.desk.specs.Desk.{Desk, fresh, full, held, with_desk, may_turn, choose}
 use Rattle.desk.specs.Turn.{Left, as_handed, serve_desk, serve_turn, turn}
 use Rattle.desk.specs.Rows.{House, Seen}
 use Rattle.desk.proofs.Bounds.{not_both, may_turn_true, turn_may}
@@ -37,9 +36,9 @@ Nearest h k =
     (j : ℕ) → full (held h.desks j) ≡ true → dist (length h.desks) h.last k ≤ dist (length h.desks) h.last j
 
 pub data Took (h : House) (l : List ℕ) : Left → Type 0 where
-  nobody_full : ((j : ℕ) → full (held h.desks j) ≡ false) → Took h l (as_handed h.pool l h.last Idle)
-  one_served : (k : ℕ) (q : Request) → 1 ≤ k → k ≤ length h.desks → held h.desks k ≡ Holding q → Nearest h k
-      → Took h l (serve_desk h.pool l h.last k (Holding q))
+  nobody_full : ((j : ℕ) → full (held h.desks j) ≡ false) → Took h l (as_handed h.pool l h.last (Ok Idle))
+  one_served : (k : ℕ) (q : Request) → 1 ≤ k → k ≤ length h.desks → held h.desks k ≡ Some q → Nearest h k
+      → Took h l (serve_desk h.pool l h.last k (Some q))
 
 pub took : (h : House) (l : List ℕ) → Sits h → list_words ≤ length l → Took h l (turn_in h l)
 unfolding serve_turn
@@ -49,8 +48,8 @@ took h l s room =
   where
     serve : (k : ℕ) (d : Desk) → held h.desks k ≡ d → full d ≡ true → 1 ≤ k → k ≤ length h.desks → Nearest h k
         → Took h l (serve_desk h.pool l h.last k d)
-    serve k Empty e f a b n = absurd (not_both false f refl)
-    serve k (Holding q) e f a b n = one_served k q a b e n
+    serve k None e f a b n = absurd (not_both false f refl)
+    serve k (Some q) e f a b n = one_served k q a b e n
 
     go : (k : ℕ) → Choice h.desks h.last k → Took h l (serve_desk h.pool l h.last k (held h.desks k))
     go k (nobody f) = nobody_full f

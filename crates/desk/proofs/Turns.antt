@@ -1,77 +1,96 @@
--- What the parts of a turn leave is what the turn leaves.
-use Prim.Native.Nat.{ℕ}
+-- What the steps of a turn come to is what the turn answers and leaves.
+use Prim.Native.Nat.{ℕ, suc, ◌-◌, ◌≤◌, ◌<◌}
 use mathlib.Core.Path.{◌≡◌, refl, ◌∙◌, ap}
-use mathlib.Core.Logic.{◌⊎◌, inl, inr}
-use mathlib.Core.List.{List}
-use mathlib.Core.Bool.{Bool, true, false}
+use mathlib.Core.List.{List, map}
+use mathlib.Core.Bool.{Bool, true, false, not}
+use native.Mathlib.Omega.{arith}
 use lib.ListN.{length}
-use Rattle.std.specs.Prelude.{if◌then◌else◌}
-use Rattle.desk.specs.declared.record.Desk.{Desk}
-use Rattle.desk.specs.declared.choosing.Chosen.{Chosen}
+use lib.Dec.{ltb}
+use Rattle.std.specs.Prelude.{if◌then◌else◌, Option, Some, None, Result, Ok, Err, option_map}
+use Rattle.words.specs.Pool.{list_words}
+use Rattle.words.specs.declared.refusal.Refusal.{Refusal}
+use Rattle.words.specs.declared.refusal.Refusal.TheVariants.{ShortList, NoDesk}
+use Rattle.change.specs.declared.Request.{Request}
+use Rattle.desk.specs.declared.answer.Turned.{Turned}
+use Rattle.desk.specs.declared.answer.Turned.TheVariants.{Idle}
 use Rattle.desk.specs.declared.answer.Turn.{Turn}
-use Rattle.desk.specs.Desk.{fresh, held, with_desk, may_submit, may_turn, choose}
-use Rattle.desk.specs.Turn.{Left, serve_turn, turn, turn_desks}
-use Rattle.desk.specs.inner.Parts.{seated, chosen, emptied}
-use Rattle.desk.proofs.Bounds.{may_turn_true, submit_may}
-use Rattle.desk.proofs.Choose.{Choice, nobody, nearest, chosen as chosen_is}
-use Rattle.desk.proofs.Served.{member_is}
-
--- nobody, or a member that has a desk
-abbrev pub Seat : ℕ → ℕ → Type 0
-Seat n j = (j ≡ 0) ⊎ (may_submit n j ≡ true)
-
--- of these, what is left for nobody need not be tested for
-pub untested : {A : Type 0} (n : ℕ) (left : ℕ → A) (j : ℕ) → Seat n j → (if may_submit n j then left j else left 0) ≡ left j
-untested n left j (inl e) = rw e (go (may_submit n 0))
-  where
-    go : (b : Bool) → (if b then left 0 else left 0) ≡ left 0
-    go true = refl
-    go false = refl
-untested n left j (inr t) = rw t
+use Rattle.desk.specs.Desk.{Desk, desks_most, held, with_desk, may_turn, choose}
+use Rattle.desk.specs.Turn.{Left, as_handed, serve_desk, serve_turn, turn}
+use Rattle.desk.specs.Promises.{PlanTurnPromise}
+use Rattle.desk.specs.inner.Parts.{chosen}
+use Rattle.desk.proofs.Bounds.{may_turn_true}
+use Rattle.desk.proofs.Choose.{full_range}
+use Rattle.desk.proofs.LentDesks.{length_reads, with_reads}
+use Rattle.desk.proofs.Served.{by}
 
 module _ (m l : List ℕ) (ds : List Desk) (last : ℕ) where
-  abbrev serve_of : Chosen → Left
-  serve_of c = serve_turn m l (length ds) last c.member c.desk
+  abbrev k : ℕ
+  k = choose ds last
 
-  serves_chosen : (c : Chosen) → c ≡ chosen ds last → serve_of c ≡ turn m l ds last
+  -- by the answers of its tests, and by the desk that it chooses
+  abbrev of : Bool → Bool → Desk → Result (Option (ℕ × Request)) Refusal
+  of nine one d = if nine then Err NoDesk else if one then Err ShortList else Ok (option_map (λ q. (k - 1, q)) d)
+
+  pub refused : (why : Refusal) → chosen l ds last ≡ Err why → turn m l ds last ≡ as_handed m l last (Err why)
   unfolding chosen serve_turn
-  serves_chosen c e = rw e (go (may_turn (length ds) last) refl)
+  refused why = go (not (may_turn (length ds) last)) (ltb (length l) list_words) (held ds k)
     where
-      go : (b : Bool) → may_turn (length ds) last ≡ b
-          → serve_of (if may_turn (length ds) last then seated ds (choose ds last) else seated ds 0) ≡ turn m l ds last
-      go true t = rw t
-      go false t = rw t
+      apart : (x : Refusal) → ◌≡◌ {A = Result (Option (ℕ × Request)) Refusal} (Err x) (Err why)
+          → ◌≡◌ {A = Result Turned Refusal} (Err x) (Err why)
+      apart x e = let h : x ≡ why = cc in ap Err h
 
-  refused_member : may_turn (length ds) last ≡ false → (turn m l ds last).answer.member ≡ 0
-  unfolding serve_turn
-  refused_member t = rw t
+      go : (a b : Bool) (d : Desk) → of a b d ≡ Err why → by m l (length ds) last k a b d ≡ as_handed m l last (Err why)
+      go true b d e = ap (λ (x : Result Turned Refusal). as_handed m l last x) (apart NoDesk e)
+      go false true d e = ap (λ (x : Result Turned Refusal). as_handed m l last x) (apart ShortList e)
+      go false false None e = cc
+      go false false (Some q) e = cc
 
-  one_of : (may_turn (length ds) last ≡ true) → (k : ℕ) → Choice ds last k → Seat (length ds) k
-  one_of t k (nobody f) = inl refl
-  one_of t k (nearest a b f n) = inr (submit_may (length ds) k (may_turn_true (length ds) last t).1 a b)
-
-  -- whom a turn answers
-  pub seat : Seat (length ds) (turn m l ds last).answer.member
-  seat = go (may_turn (length ds) last) refl
+  pub idle : chosen l ds last ≡ Ok None → turn m l ds last ≡ as_handed m l last (Ok Idle)
+  unfolding chosen serve_turn
+  idle = go (not (may_turn (length ds) last)) (ltb (length l) list_words) (held ds k)
     where
-      by_member : may_turn (length ds) last ≡ true
-          → ((turn m l ds last).answer.member ≡ 0) ⊎ ((turn m l ds last).answer.member ≡ choose ds last)
-          → Seat (length ds) (turn m l ds last).answer.member
-      by_member t (inl e) = inl e
-      by_member t (inr e) = rw e (one_of t (choose ds last) (chosen_is ds last (may_turn_true (length ds) last t).2))
+      go : (a b : Bool) (d : Desk) → of a b d ≡ Ok None → by m l (length ds) last k a b d ≡ as_handed m l last (Ok Idle)
+      go true b d e = cc
+      go false true d e = cc
+      go false false None e = refl
+      go false false (Some q) e = cc
 
-      go : (b : Bool) → may_turn (length ds) last ≡ b → Seat (length ds) (turn m l ds last).answer.member
-      go true t = by_member t (member_is m l (length ds) last (choose ds last) (held ds (choose ds last)))
-      go false t = inl (refused_member t)
+  serves : (x : ℕ × Request) → chosen l ds last ≡ Ok (Some x)
+      → (turn m l ds last ≡ serve_desk m l last (suc x.0) (Some x.1)) × (x.0 < length ds) × (length ds ≤ desks_most)
+  unfolding chosen serve_turn
+  serves x = go (may_turn (length ds) last) refl (ltb (length l) list_words) (held ds k) refl
+    where
+      go : (a : Bool) → may_turn (length ds) last ≡ a → (b : Bool) (d : Desk) → held ds k ≡ d → of (not a) b d ≡ Ok (Some x)
+          → (by m l (length ds) last k (not a) b d ≡ serve_desk m l last (suc x.0) (Some x.1)) × (x.0 < length ds)
+          × (length ds ≤ desks_most)
+      go false t b d f e = cc
+      go true t true d f e = cc
+      go true t false None f e = cc
+      go true t false (Some q) f e =
+          let r = full_range ds k (rw f) in
+          let pair : (k - 1, q) ≡ x = cc in
+          let at : k - 1 ≡ x.0 = ap (λ (y : ℕ × Request). y.0) pair in
+          let is : q ≡ x.1 = ap (λ (y : ℕ × Request). y.1) pair in
+          let k_is : k ≡ suc x.0 = omega (arith, r, at) in (
+            ap (λ j. serve_desk m l last j (Some q)) k_is ∙ ap (λ p. serve_desk m l last (suc x.0) (Some p)) is,
+            omega (arith, r, at),
+            (may_turn_true (length ds) last t).1,
+          )
 
-  empties_served : emptied ds (turn m l ds last).answer.member ≡ turn_desks m l ds last
-  unfolding emptied
-  empties_served = untested (length ds) (λ j. with_desk ds j fresh) (turn m l ds last).answer.member seat
+-- of lent desks
+module _ {A : Type 0} {says : A → Desk} {reads : List A → List Desk} (each : (ds : List A) → reads ds ≡ map says ds)
+    (made : Desk → A) (back : (d : Desk) → says (made d) ≡ d) (m l : List ℕ) (ds : List A) (last : ℕ) where
+  -- a turn serves the desk at a place, of which there are few
+  pub served : (x : ℕ × Request) → chosen l (reads ds) last ≡ Ok (Some x)
+      → (turn m l (reads ds) last ≡ serve_desk m l last (suc x.0) (Some x.1)) × (x.0 < length ds) × (length ds ≤ desks_most)
+  served x e =
+      let n = length_reads each ds in
+      let h = serves m l (reads ds) last x e in
+      (h.0, rw n at h.1, rw n at h.2)
 
-  pub leaves : (c : Chosen) {r : Turn} {l' : List ℕ} {ds' : List Desk} → c ≡ chosen ds last
-      → let t = serve_turn m l (length ds) last c.member c.desk in (r ≡ t.answer) × (l' ≡ t.list) → ds' ≡ emptied ds r.member
-      → (r ≡ (turn m l ds last).answer) × (l' ≡ (turn m l ds last).list) × (ds' ≡ turn_desks m l ds last)
-  leaves c e (f, h) k =
-      let all = serves_chosen c e in
-      let f' = f ∙ ap (λ (t : Left). t.answer) all in
-      (f', h ∙ ap (λ (t : Left). t.list) all, k ∙ (ap (λ (r : Turn). emptied ds r.member) f' ∙ empties_served))
+  abbrev pub Does : Turn → List ℕ → List A → Type 0
+  Does r l' ds' = PlanTurnPromise m l (reads ds) last r l' (reads ds') × (ds' ≡ with_desk ds r.member (made None))
+
+  pub does : {t : Left} (r : Turn) (l' : List ℕ) (ds' : List A) → turn m l (reads ds) last ≡ t → r ≡ t.answer → l' ≡ t.list
+      → ds' ≡ with_desk ds r.member (made None) → Does r l' ds'
+  does r l' ds' is e f g = ((rw (is, e), rw (is, f), ap reads g ∙ with_reads each ds r.member (made None) ∙ rw (is, e, back)), g)

@@ -4,9 +4,8 @@ use mathlib.Core.Path.{◌≡◌, ◌∙◌}
 use mathlib.Core.List.{List}
 use lib.ListN.{length}
 use Rattle.words.specs.Carry.{CarryAllPromise, after_all}
-use Rattle.desk.specs.declared.record.Desk.{Desk}
 use Rattle.desk.specs.declared.answer.Turn.{Turn}
-use Rattle.desk.specs.Desk.{held, choose}
+use Rattle.desk.specs.Desk.{Desk, held, choose}
 use Rattle.desk.specs.Turn.{turn}
 use Rattle.desk.specs.Promises.{PlanTurnPromise, TurnPromise, TwoSteps}
 use Rattle.desk.proofs.Answers.{turn_told}

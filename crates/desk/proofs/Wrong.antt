@@ -7,7 +7,7 @@ use native.Mathlib.Omega.{arith}
 use lib.Dec.{eqb}
 use lib.ListN.{length, take, replicate, length-replicate}
 use borrow.Author.Tests.{eq-eqb}
-use Rattle.std.specs.Prelude.{if◌then◌else◌}
+use Rattle.std.specs.Prelude.{None, Some, Ok, if◌then◌else◌}
 use Rattle.words.specs.Pool.{list_words}
 use Rattle.words.specs.Cuts.{first}
 use Rattle.words.specs.declared.refusal.Refusal.TheVariants.{NoPool}
@@ -16,11 +16,9 @@ use Rattle.tree.specs.Header.{form_agrees}
 use Rattle.change.specs.declared.Request.{Request}
 use Rattle.change.specs.declared.Request.TheVariants.{Fetch}
 use Rattle.change.specs.Rule.{Map}
-use Rattle.desk.specs.declared.record.Desk.{Desk}
-use Rattle.desk.specs.declared.record.Desk.TheVariants.{Empty, Holding}
 use Rattle.desk.specs.declared.answer.Turned.TheVariants.{Idle}
 use Rattle.desk.specs.declared.answer.Turn.{Turn}
-use Rattle.desk.specs.Desk.{fresh, held, with_desk, first_full, choose}
+use Rattle.desk.specs.Desk.{Desk, fresh, held, with_desk, first_full, choose}
 use Rattle.desk.specs.Turn.{Left, as_handed, serve_turn, submit_answer, submit_desks}
 use Rattle.desk.specs.Turn as d
 use Rattle.desk.specs.Rows.{Way, House, submit, turn, Seen, seen, events_of, after, turns, accepted, times}
@@ -36,7 +34,7 @@ looks_from_one = record { turn = from_one; desks = λ m l ds last. with_desk ds 
 
 -- a turn is always Idle
 abbrev always_idle : Way
-always_idle = record { turn = λ m l ds last. as_handed m l last Idle; desks = λ m l ds last. ds }
+always_idle = record { turn = λ m l ds last. as_handed m l last (Ok Idle); desks = λ m l ds last. ds }
 
 -- a turn keeps the desk full
 abbrev keeps_full : Way
@@ -53,7 +51,7 @@ serves_first = record { turn = first_alone; desks = λ m l ds last. with_desk ds
 abbrev dropping : List ℕ → List ℕ → List Desk → ℕ → Left
 dropping m l ds last =
     let k = choose ds last in
-    record { answer = record { turned = Idle; member = k; events = 0; last = k }; pool = m; list = l }
+    record { answer = record { turned = Ok Idle; member = k; events = 0; last = k }; pool = m; list = l }
 
 abbrev drops : Way
 drops = record { turn = dropping; desks = λ m l ds last. with_desk ds (choose ds last) fresh }
@@ -100,7 +98,7 @@ room = rw (length-replicate {A = ℕ}) (omega arith)
 module _ (P : Pools) (m : List ℕ) (p q : Request) (fits_p : P.Fits p) (fits_q : P.Fits q) where
   -- two desks; member 1 waits, member 2 submits, and member 1 submits again once it is served
   abbrev two : House
-  two = record { pool = m; desks = Holding p ∷ Empty ∷ []; last = 0 }
+  two = record { pool = m; desks = Some p ∷ None ∷ []; last = 0 }
 
   pub starves : Demand3 looks_from_one P two → ⊥
   unfolding turns after submit_answer submit_desks serve_turn first_full
@@ -121,19 +119,19 @@ module _ (P : Pools) (m : List ℕ) (p q : Request) (fits_p : P.Fits p) (fits_q 
       unserved 2 2 q _ refl (x.in_time [] row 2 q (fits_q, (room, (room, tt))) refl (omega arith))
 
   abbrev one : House
-  one = record { pool = m; desks = Holding p ∷ []; last = 0 }
+  one = record { pool = m; desks = Some p ∷ []; last = 0 }
 
   pub dropped : Demand3 drops P one → ⊥
   unfolding turns after first_full
   dropped x = let (g, t, rest) = x.answers (turn words ∷ []) (room, tt) in go g t
     where
       go : (g : Map) → Ruled P (seen drops one words) (P.map_of m) g → ⊥
-      go g (idle none a e) = let f : Holding p ≡ Empty = none 1 in let z : ◌≡◌ {A = ℕ} 0 1 = cc in omega arith
-      go g (by_rule r h a l e) = let z : ◌≡◌ {A = ℕ} 0 1 = cc in omega arith
-      go g (no_room r h a l c e) = let z : ◌≡◌ {A = ℕ} 0 1 = cc in omega arith
+      go g (idle none a e) = let f : Some p ≡ None = none 1 in cc
+      go g (by_rule r h a l e) = cc
+      go g (no_room r h a l c e) = cc
 
   -- member 2 is served by the first turn; the second, of member 1, is one of the M turns all the same
-  pub overspent : Demand3 overspends P (record { pool = m; desks = Holding p ∷ Empty ∷ []; last = 1 }) → ⊥
+  pub overspent : Demand3 overspends P (record { pool = m; desks = Some p ∷ None ∷ []; last = 1 }) → ⊥
   unfolding turns after submit_answer submit_desks serve_turn first_full
   overspent x =
       let row = turn words ∷ turn words ∷ [] in
@@ -155,8 +153,8 @@ module _ (P : Pools) (m : List ℕ) (p q : Request) (fits_p : P.Fits p) (fits_q 
 pub refused_stays : Refuses keeps_refused → ⊥
 unfolding serve_turn first_full form_agrees
 refused_stays x =
-    let a = x.request_refused [] words (Holding (Fetch 7) ∷ []) 0 NoPool refl in
+    let a = x.request_refused [] words (Some (Fetch 7) ∷ []) 0 NoPool refl in
     let one : a.member ≡ 1 = sym a.member_is in
-    let kept : Holding (Fetch 7) ∷ [] ≡ Empty ∷ [] = rw one at a.desks_are in
+    let kept : Some (Fetch 7) ∷ [] ≡ None ∷ [] = rw one at a.desks_are in
     let z : ◌≡◌ {A = ℕ} 0 1 = cc in
     omega arith

@@ -2,19 +2,17 @@
 -- M-th turn after it at latest, unless power goes, every other desk at most once before it, whatever is submitted meanwhile. Those turns
 -- carry out at most M times 186 events. Answers, in the order served, are those of demand 2's map, 01's refusal 5 aside. A cut in any turn
 -- leaves, after recovery, the map of the finished turns, with or without that turn's change."
-use Rattle.std.specs.Prelude.{ℕ, suc, ◌*◌, ◌+◌, ◌≤◌, ◌<◌, ◌≡◌, ◌⊎◌, List, [], ◌∷◌, ◌++◌, length, take}
+use Rattle.std.specs.Prelude.{ℕ, suc, ◌*◌, ◌+◌, ◌≤◌, ◌<◌, ◌≡◌, ◌⊎◌, List, [], ◌∷◌, ◌++◌, length, take, Some, Result, Ok, Err}
 use Rattle.words.specs.Pool.{list_words, events_most}
 use Rattle.words.specs.Event.{Event, run}
 use Rattle.words.specs.Carry.{AllDone}
 use Rattle.words.specs.Loss.{Safe}
 use Rattle.words.specs.Cuts.{Found}
+use Rattle.words.specs.declared.refusal.Refusal.{Refusal}
 use Rattle.words.specs.declared.refusal.Refusal.TheVariants.{NoRoom}
 use Rattle.change.specs.Rule.{Map, rule}
 use Rattle.change.specs.declared.Request.{Request}
 use Rattle.change.specs.declared.Outcome.{Outcome}
-use Rattle.change.specs.declared.Outcome.TheVariants.{Refused}
-use Rattle.desk.specs.declared.record.Desk.TheVariants.{Holding}
-use Rattle.desk.specs.declared.answer.Submitted.TheVariants.{Accepted}
 use Rattle.desk.specs.declared.answer.Turned.TheVariants.{Served, Idle}
 use Rattle.desk.specs.Desk.{desks_most, fresh, held}
 use Rattle.desk.specs.Turn.{submit_answer, unserved}
@@ -40,8 +38,8 @@ pub record InTime (M j : ℕ) (q : Request) (ts : List Seen) : Type 0 where
   pub rest : List Seen
   pub in_row : ts ≡ before ++ its ∷ rest
   -- "served": the turn answers this member an outcome, and its desk held this request
-  pub outcome : Outcome
-  pub serves : (its.left.answer.turned ≡ Served outcome) × (its.left.answer.member ≡ j) × (desk_of its ≡ Holding q)
+  pub outcome : Result Outcome Refusal
+  pub serves : (its.left.answer.turned ≡ Ok (Served outcome)) × (its.left.answer.member ≡ j) × (desk_of its ≡ Some q)
   -- "by the M-th turn after it at latest"
   pub by_then : suc (length before) ≤ M
   -- "every other desk at most once before it"
@@ -54,10 +52,10 @@ module _ (P : Pools) where
   -- a turn answers by the map's rule from f to g, "01's refusal 5 aside", the member whose desk held the request, and is then the last
   -- served; or no desk is full: "Idle, on any pool, member 0, 0 events, last served as handed"
   pub data Ruled (t : Seen) (f g : Map) : Type 0 where
-    idle : ((j : ℕ) → held t.handed.desks j ≡ fresh) → t.left.answer ≡ unserved t.handed.last Idle → g ≡ f → Ruled t f g
-    by_rule : (q : Request) → desk_of t ≡ Holding q → t.left.answer.turned ≡ Served (rule q f).0
+    idle : ((j : ℕ) → held t.handed.desks j ≡ fresh) → t.left.answer ≡ unserved t.handed.last (Ok Idle) → g ≡ f → Ruled t f g
+    by_rule : (q : Request) → desk_of t ≡ Some q → t.left.answer.turned ≡ Ok (Served (Ok (rule q f).0))
         → t.left.answer.last ≡ t.left.answer.member → g ≡ (rule q f).1 → Ruled t f g
-    no_room : (q : Request) → desk_of t ≡ Holding q → t.left.answer.turned ≡ Served (Refused NoRoom)
+    no_room : (q : Request) → desk_of t ≡ Some q → t.left.answer.turned ≡ Ok (Served (Err NoRoom))
         → t.left.answer.last ≡ t.left.answer.member → P.Lacks t.handed.pool q → g ≡ f → Ruled t f g
 
   abbrev pub AllRuled : List Seen → Map → Map → Type 0
@@ -76,7 +74,7 @@ module _ (P : Pools) where
     pub some_desks : 1 ≤ length h.desks
     pub not_many : length h.desks ≤ desks_most
     pub last_is : h.last ≤ length h.desks
-    pub fit : (j : ℕ) (q : Request) → held h.desks j ≡ Holding q → P.Fits q
+    pub fit : (j : ℕ) (q : Request) → held h.desks j ≡ Some q → P.Fits q
 
   -- the events es of a turn lead from the pool m to m'', and m' was found after n of them, with recovery cut any number of times: recovery
   -- accepts it, with any "list of 372 words", and leaves "the map of the finished turns, with or without that turn's change"; once the
@@ -92,7 +90,7 @@ pub record Demand3 (X : Way) (P : Pools) (h : House) : Type 0 where
   -- whatever is submitted meanwhile. Those turns carry out at most M times 186 events.": r is the row before the submit, s the row after
   -- it, in which anything may be submitted
   pub in_time : (r s : List Call) (j : ℕ) (q : Request) → Given P (r ++ submit j q ∷ s)
-      → submit_answer (after X h r).desks j ≡ Accepted
+      → submit_answer (after X h r).desks j ≡ Ok tt
       → let ts = turns X (step X (after X h r) (submit j q)) s in length h.desks ≤ length ts → InTime (length h.desks) j q ts
   -- and once: what a member was served and still waits for is what was accepted of it, and what its desk held at first
   pub each_once : (r : List Call) (j : ℕ) → Given P r → 1 ≤ j

@@ -1,18 +1,19 @@
 -- Document 01, "Desks": a list of desks, and which of them a turn serves. Members are numbered from 1.
-use Rattle.std.specs.Prelude.{ℕ, zero, suc, ◌-◌, List, [], ◌∷◌, ◌++◌, Bool, true, false, not, ◌&&◌, length, get_or, set, leb}
-use Rattle.std.specs.Prelude.{if◌then◌else◌}
+use Rattle.std.specs.Prelude.{ℕ, zero, suc, ◌-◌, List, [], ◌∷◌, ◌++◌, Bool, not, ◌&&◌, length, get_or, set, leb}
+use Rattle.std.specs.Prelude.{Option, None, is_some, if◌then◌else◌}
 use Rattle.words.specs.Tests.{within}
 use Rattle.words.specs.Lists.{count_from}
-use Rattle.desk.specs.declared.record.Desk.{Desk}
-use Rattle.desk.specs.declared.record.Desk.TheVariants.{Empty, Holding}
+use Rattle.change.specs.declared.Request.{Request}
 
 -- "each empty or holding one put, fetch or delete"
+abbrev pub Desk : Type 0
+Desk = Option Request
+
 abbrev pub fresh : Desk
-fresh = Empty
+fresh = None
 
 abbrev pub full : Desk → Bool
-full Empty = false
-full (Holding request) = true
+full d = is_some d
 
 -- "one for each member, 1 to 16"
 abbrev pub desks_most : ℕ
@@ -23,8 +24,8 @@ abbrev pub held : List Desk → ℕ → Desk
 held ds zero = fresh
 held ds (suc i) = get_or ds i fresh
 
--- the desks with another one for a member
-abbrev pub with_desk : List Desk → ℕ → Desk → List Desk
+-- the desks, in whatever form, with another one for a member
+abbrev pub with_desk : {A : Type 0} → List A → ℕ → A → List A
 with_desk ds zero d = ds
 with_desk ds (suc i) d = set ds i d
 

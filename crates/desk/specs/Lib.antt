@@ -7,4 +7,5 @@ pub mod Refused
 pub mod Rows
 pub mod Demand3
 pub mod OurPools
+pub mod Lent
 pub mod inner

@@ -1,16 +1,16 @@
 -- "Every public call promises its answer and each word of pool, list .. and desks for all inputs, refusals too." Pool, list and desks are
 -- m, l and ds before the call, and m', l' and ds' after it; r is the answer.
-use Rattle.std.specs.Prelude.{ℕ, ◌≡◌, List, [], ◌∷◌}
+use Rattle.std.specs.Prelude.{ℕ, ◌≡◌, List, [], ◌∷◌, Result}
 use Rattle.words.specs.Carry.{CarryAllPromise}
+use Rattle.words.specs.declared.refusal.Refusal.{Refusal}
 use Rattle.change.specs.declared.Request.{Request}
-use Rattle.desk.specs.declared.record.Desk.{Desk}
-use Rattle.desk.specs.declared.answer.Submitted.{Submitted}
 use Rattle.desk.specs.declared.answer.Turn.{Turn}
 use Rattle.desk.specs.declared.asking.Asked.{Asked}
+use Rattle.desk.specs.Desk.{Desk}
 use Rattle.desk.specs.Turn as t
 use Rattle.desk.specs.Answers.{submit_says, turn_says}
 
-abbrev pub SubmitPromise : List Desk → ℕ → Request → Submitted → List Desk → Type 0
+abbrev pub SubmitPromise : List Desk → ℕ → Request → Result Unit Refusal → List Desk → Type 0
 SubmitPromise ds member q r ds' = (submit_says r ≡ submit_says (t.submit_answer ds member)) × (ds' ≡ t.submit_desks ds member q)
 
 abbrev pub TurnPromise : List ℕ → List ℕ → List Desk → ℕ → Turn → List ℕ → List ℕ → List Desk → Type 0

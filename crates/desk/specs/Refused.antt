@@ -1,18 +1,14 @@
 -- Demand 1 of the desks: "What document 01's table names .. is refused with its number, and nothing lent is altered, save that a turn
 -- answers a refused request and empties its desk." For every pool, list and desks, and every member and last served.
-use Rattle.std.specs.Prelude.{ℕ, ◌-◌, ◌≤◌, ◌<◌, ◌≡◌, ◌⊎◌, List, [], ◌∷◌, length, get_or, set}
+use Rattle.std.specs.Prelude.{ℕ, ◌-◌, ◌≤◌, ◌<◌, ◌≡◌, ◌⊎◌, List, [], ◌∷◌, length, get_or, set, Some, None, Result, Ok, Err}
 use Rattle.words.specs.Refusals.{number}
 use Rattle.words.specs.declared.refusal.Refusal.{Refusal}
 use Rattle.change.specs.declared.Request.{Request}
 use Rattle.change.specs.declared.Request.TheVariants.{Put, Fetch, Delete}
-use Rattle.change.specs.declared.Outcome.TheVariants as o
 use Rattle.change.specs.Conditions.{Rows, Says, Outside, ShortList, NoPool, Unfinished, Damaged, NoRoom, SplitsEight}
-use Rattle.desk.specs.declared.record.Desk.{Desk}
-use Rattle.desk.specs.declared.record.Desk.TheVariants.{Empty, Holding}
-use Rattle.desk.specs.declared.answer.Submitted.TheVariants as s
 use Rattle.desk.specs.declared.answer.Turned.{Turned}
-use Rattle.desk.specs.declared.answer.Turned.TheVariants.{Served, Idle, Refused}
-use Rattle.desk.specs.Desk.{held, choose}
+use Rattle.desk.specs.declared.answer.Turned.TheVariants.{Served}
+use Rattle.desk.specs.Desk.{Desk, held, choose}
 use Rattle.desk.specs.Turn.{submit_answer, submit_desks}
 use Rattle.desk.specs.Answers.{submit_says, turned_says}
 use Rattle.desk.specs.Rows.{Way}
@@ -27,7 +23,7 @@ NoTurn ds last = Outside 1 (length ds) 16 ⊎ (length ds < last)
 
 -- the desk of a member, from 1 on, holds this request
 abbrev pub Holds : List Desk → ℕ → Request → Type 0
-Holds ds member q = get_or ds (member - 1) Empty ≡ Holding q
+Holds ds member q = get_or ds (member - 1) None ≡ Some q
 
 -- 10: "submit: desk full"
 abbrev pub FullDesk : List Desk → ℕ → Type 0
@@ -41,14 +37,13 @@ request_rows m (Fetch key) = (NoPool m, 2) ∷ (Unfinished m, 3) ∷ (Damaged m 
 request_rows m (Delete key) = (NoPool m, 2) ∷ (Unfinished m, 3) ∷ (Damaged m key, 4) ∷ []
 
 abbrev pub desk_rows : List ℕ → Desk → Rows
-desk_rows m Empty = []
-desk_rows m (Holding q) = request_rows m q
+desk_rows m None = []
+desk_rows m (Some q) = request_rows m q
 
 -- the number by which the turn itself is refused, 0 where it is not
-abbrev pub itself_says : Turned → ℕ
-itself_says (Served outcome) = 0
-itself_says Idle = 0
-itself_says (Refused why) = number why
+abbrev pub itself_says : Result Turned Refusal → ℕ
+itself_says (Ok turned) = 0
+itself_says (Err why) = number why
 
 -- of a way of taking turns
 module _ (X : Way) where
@@ -74,7 +69,7 @@ module _ (X : Way) where
     pub events_are : (X.turn m l ds last).answer.events ≡ 0
     pub pool_is : (X.turn m l ds last).pool ≡ m
     pub list_is : (X.turn m l ds last).list ≡ l
-    pub desks_are : X.desks m l ds last ≡ set ds (member - 1) Empty
+    pub desks_are : X.desks m l ds last ≡ set ds (member - 1) None
     pub last_is : (X.turn m l ds last).answer.last ≡ member
 
   pub record Refuses : Type 0 where
@@ -87,10 +82,10 @@ module _ (X : Way) where
         → Says ((NoTurn ds last, 9) ∷ (ShortList l, 1) ∷ desk_rows m (held ds (choose ds last)))
         (turned_says (X.turn m l ds last).answer.turned).1
     -- "Each leaves everything lent unchanged and counts 0 events."
-    pub submit_refused : (ds : List Desk) (member : ℕ) (q : Request) (why : Refusal) → submit_answer ds member ≡ s.Refused why
+    pub submit_refused : (ds : List Desk) (member : ℕ) (q : Request) (why : Refusal) → submit_answer ds member ≡ Err why
         → submit_desks ds member q ≡ ds
-    pub turn_refused : (m l : List ℕ) (ds : List Desk) (last : ℕ) (why : Refusal) → (X.turn m l ds last).answer.turned ≡ Refused why
+    pub turn_refused : (m l : List ℕ) (ds : List Desk) (last : ℕ) (why : Refusal) → (X.turn m l ds last).answer.turned ≡ Err why
         → AsHanded m l ds last
     -- "Inside a turn 2 to 5 become the member's answer and the desk is emptied."
     pub request_refused : (m l : List ℕ) (ds : List Desk) (last : ℕ) (why : Refusal)
-        → (X.turn m l ds last).answer.turned ≡ Served (o.Refused why) → Answered m l ds last why
+        → (X.turn m l ds last).answer.turned ≡ Ok (Served (Err why)) → Answered m l ds last why

@@ -3,9 +3,7 @@ use Rattle.std.specs.Prelude.{ℕ, zero, suc, ◌+◌, List, [], ◌∷◌, eqb,
 use Rattle.std.proofs.Math.Option.{Option, none, some}
 use Rattle.words.specs.Event.{Event, event_at}
 use Rattle.change.specs.declared.Request.{Request}
-use Rattle.desk.specs.declared.record.Desk.{Desk}
-use Rattle.desk.specs.declared.record.Desk.TheVariants.{Empty, Holding}
-use Rattle.desk.specs.Desk.{held, accepts}
+use Rattle.desk.specs.Desk.{Desk, full, held, accepts}
 use Rattle.desk.specs.Turn as d
 use Rattle.desk.specs.Turn.{Left}
 
@@ -89,5 +87,4 @@ carried [] = 0
 carried (t ∷ ts) = t.left.answer.events + carried ts
 
 abbrev pub waiting : Desk → ℕ
-waiting Empty = 0
-waiting (Holding q) = 1
+waiting d = if full d then 1 else 0

@@ -1,29 +1,27 @@
 -- Document 01, "Desks": what submit and turn answer, and what they leave in the desks, the pool and the list.
-use Rattle.std.specs.Prelude.{ℕ, List, [], ◌∷◌, not, length, ltb, if◌then◌else◌}
+use Rattle.std.specs.Prelude.{ℕ, List, [], ◌∷◌, not, length, ltb, if◌then◌else◌, Some, None, Result, Ok, Err}
 use Rattle.words.specs.Pool.{list_words}
 use Rattle.words.specs.Carry.{after_all}
+use Rattle.words.specs.declared.refusal.Refusal.{Refusal}
 use Rattle.words.specs.declared.refusal.Refusal.TheVariants.{ShortList, NoDesk, FullDesk}
 use Rattle.change.specs.declared.Request.{Request}
+use Rattle.change.specs.Gate.{outcome_of, events_of}
 use Rattle.change.specs.Calls.{serve_answer, serve_list}
-use Rattle.desk.specs.declared.record.Desk.{Desk}
-use Rattle.desk.specs.declared.record.Desk.TheVariants.{Empty, Holding}
-use Rattle.desk.specs.declared.answer.Submitted.{Submitted}
-use Rattle.desk.specs.declared.answer.Submitted.TheVariants as s
 use Rattle.desk.specs.declared.answer.Turned.{Turned}
-use Rattle.desk.specs.declared.answer.Turned.TheVariants.{Served, Idle, Refused}
+use Rattle.desk.specs.declared.answer.Turned.TheVariants.{Served, Idle}
 use Rattle.desk.specs.declared.answer.Turn.{Turn}
-use Rattle.desk.specs.Desk.{fresh, full, held, with_desk, may_submit, may_turn, accepts, choose}
+use Rattle.desk.specs.Desk.{Desk, fresh, full, held, with_desk, may_submit, may_turn, accepts, choose}
 
 -- submit: 9, then 10
-unfoldable pub submit_answer : List Desk → ℕ → Submitted
+unfoldable pub submit_answer : List Desk → ℕ → Result Unit Refusal
 submit_answer ds member =
-    if not (may_submit (length ds) member) then s.Refused NoDesk
-    else if full (held ds member) then s.Refused FullDesk
-    else s.Accepted
+    if not (may_submit (length ds) member) then Err NoDesk
+    else if full (held ds member) then Err FullDesk
+    else Ok tt
 
 -- "Submit fills an empty one."
 unfoldable pub submit_desks : List Desk → ℕ → Request → List Desk
-submit_desks ds member q = if accepts ds member then with_desk ds member (Holding q) else ds
+submit_desks ds member q = if accepts ds member then with_desk ds member (Some q) else ds
 
 -- what a turn answers, and the pool and the list after it
 pub record Left : Type 0 where
@@ -32,31 +30,31 @@ pub record Left : Type 0 where
   pub list : List ℕ
 
 -- "member 0, 0 events, last served as handed"
-abbrev pub unserved : ℕ → Turned → Turn
+abbrev pub unserved : ℕ → Result Turned Refusal → Turn
 unserved last turned = record { turned = turned; member = 0; events = 0; last = last }
 
 -- "Each leaves everything lent unchanged and counts 0 events."
-abbrev pub as_handed : List ℕ → List ℕ → ℕ → Turned → Left
+abbrev pub as_handed : List ℕ → List ℕ → ℕ → Result Turned Refusal → Left
 as_handed m l last turned = record { answer = unserved last turned; pool = m; list = l }
 
 -- "serves .. carries out all its events .. and answers with member, outcome, event count and new last served, which is that member
 -- even if refused"; "With none full .. Idle"
 abbrev pub serve_desk : List ℕ → List ℕ → ℕ → ℕ → Desk → Left
-serve_desk m l last member Empty = as_handed m l last Idle
-serve_desk m l last member (Holding q) =
+serve_desk m l last member None = as_handed m l last (Ok Idle)
+serve_desk m l last member (Some q) =
     let a = serve_answer m l q in
     let l' = serve_list m l q in
     record {
-      answer = record { turned = Served a.outcome; member = member; events = a.events; last = member };
-      pool = after_all m l' 1 a.events;
+      answer = record { turned = Ok (Served (outcome_of a)); member = member; events = events_of a; last = member };
+      pool = after_all m l' 1 (events_of a);
       list = l';
     }
 
 -- 9, then 1: "event list under 372 words (.. turn)"; otherwise this member's desk is served
 unfoldable pub serve_turn : List ℕ → List ℕ → ℕ → ℕ → ℕ → Desk → Left
 serve_turn m l desks last member desk =
-    if not (may_turn desks last) then as_handed m l last (Refused NoDesk)
-    else if ltb (length l) list_words then as_handed m l last (Refused ShortList)
+    if not (may_turn desks last) then as_handed m l last (Err NoDesk)
+    else if ltb (length l) list_words then as_handed m l last (Err ShortList)
     else serve_desk m l last member desk
 
 abbrev pub turn : List ℕ → List ℕ → List Desk → ℕ → Left

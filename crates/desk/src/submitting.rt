@@ -1,61 +1,34 @@
 // A member submits a request.
 ghost use Rattle.std.specs.Prelude.{◌≡◌, ◌-◌, if◌then◌else◌};
 ghost use Rattle.desk.specs.Desk.{may_submit};
+ghost use Rattle.desk.specs.Lent.{laid};
 ghost use Rattle.desk.specs.Promises.{SubmitPromise};
-ghost use Rattle.desk.specs.inner.Parts.{filled};
 
-use crate::answer::Submitted;
-use crate::record::Desk;
+use crate::lent::Lent;
 use change::Request;
 use words::Refusal;
 
-// What a desk becomes, and the answer.
-#[derive(Drop)]
-pub struct Filled {
-    pub desk: Desk,
-    pub answer: Submitted,
+// The desks of a list, at most.
+pub const DESKS_MOST: usize = 16;
+
+// The place of a member's desk.
+fn seat(desks: usize, member: u64) -> Result<usize, Refusal>
+    ensures { result ≡ (if may_submit desks member then Ok (member - 1) else Err Refusal.NoDesk) }
+{
+    if DESKS_MOST < desks || member == 0 || (desks as u64) < member {
+        return Err(Refusal::NoDesk);
+    }
+    Ok(member as usize - 1)
 }
 
-// The place of a member's desk, or the number of desks where there is no such desk.
-pub fn seat(desks: usize, member: u64) -> usize
-    ensures { result ≡ (if may_submit desks member then member - 1 else desks) }
+pub fn submit<L: Lent>(desks: &mut [L], member: u64, request: Request) -> Result<(), Refusal>
+    ensures promise { SubmitPromise (L.reads desks.old) member request result (L.reads desks.new) }
+    ensures lent { desks.new ≡ laid L.reads L.made desks.old member request }
 {
-    if Desk::MOST < (desks as u64) {
-        return desks;
+    let i = seat(desks.len(), member)?;
+    if desks[i].desk().is_some() {
+        return Err(Refusal::FullDesk);
     }
-    if member == 0 {
-        return desks;
-    }
-    if (desks as u64) < member {
-        return desks;
-    }
-    member as usize - 1
-}
-
-pub fn fill(desk: Desk, request: Request) -> Filled
-    ensures { result ≡ filled desk request }
-{
-    match desk {
-        Desk::Empty => Filled {
-            desk: Desk::Holding(request),
-            answer: Submitted::Accepted,
-        },
-        Desk::Holding(_) => Filled {
-            desk: desk,
-            answer: Submitted::Refused(Refusal::FullDesk),
-        },
-    }
-}
-
-pub fn submit(desks: &mut [Desk], member: u64, request: Request) -> Submitted
-    ensures { SubmitPromise desks.old member request result desks.new }
-{
-    let n = desks.len();
-    let i = seat(n, member);
-    if i < n {
-        let f = fill(desks[i], request);
-        desks[i] = f.desk;
-        return f.answer;
-    }
-    Submitted::Refused(Refusal::NoDesk)
+    desks[i] = L::lend(Some(request));
+    Ok(())
 }

@@ -1,30 +1,27 @@
--- What the functions under submit and turn do. The promises of submit and turn do not rest on these.
-use Rattle.std.specs.Prelude.{ℕ, List, not, ◌&&◌, length, if◌then◌else◌}
-use Rattle.words.specs.declared.refusal.Refusal.TheVariants.{FullDesk}
+-- What the functions under a turn do. The promise of turn does not rest on these.
+use Rattle.std.specs.Prelude.{ℕ, ◌-◌, List, Option, Result, Ok, Err, not, length, ltb, option_map, if◌then◌else◌}
+use Rattle.words.specs.Pool.{list_words}
+use Rattle.words.specs.declared.refusal.Refusal.{Refusal}
+use Rattle.words.specs.declared.refusal.Refusal.TheVariants.{ShortList, NoDesk}
 use Rattle.change.specs.declared.Request.{Request}
-use Rattle.desk.specs.declared.record.Desk.{Desk}
-use Rattle.desk.specs.declared.record.Desk.TheVariants.{Empty, Holding}
-use Rattle.desk.specs.declared.answer.Submitted.TheVariants.{Accepted, Refused}
-use Rattle.desk.specs.declared.submitting.Filled.{Filled}
-use Rattle.desk.specs.declared.choosing.Chosen.{Chosen}
-use Rattle.desk.specs.Desk.{fresh, full, held, with_desk, may_submit, may_turn, choose}
+use Rattle.change.specs.declared.Answer.{Answer}
+use Rattle.change.specs.Gate.{outcome_of, events_of}
+use Rattle.desk.specs.declared.answer.Turned.TheVariants.{Served}
+use Rattle.desk.specs.declared.answer.Turn.{Turn}
+use Rattle.desk.specs.Desk.{Desk, held, may_turn, choose}
 
--- what a desk becomes by a submit, and the answer
-abbrev pub filled : Desk → Request → Filled
-filled Empty q = record { desk = Holding q; answer = Accepted }
-filled (Holding p) q = record { desk = Holding p; answer = Refused FullDesk }
+-- the place of a member's desk and the request that it holds; of nobody, as of an empty desk, none
+abbrev pub found : List Desk → ℕ → Option (ℕ × Request)
+found ds member = option_map (λ q. (member - 1, q)) (held ds member)
 
--- one desk more is looked at: the first full one stays
-abbrev pub noted : Chosen → ℕ → Desk → Chosen
-noted found member d = if not (full found.desk) && full d then record { member = member; desk = d } else found
+-- the desk that a turn serves, unless it is refused: 9, then 1
+unfoldable pub chosen : List ℕ → List Desk → ℕ → Result (Option (ℕ × Request)) Refusal
+chosen l ds last =
+    if not (may_turn (length ds) last) then Err NoDesk
+    else if ltb (length l) list_words then Err ShortList
+    else Ok (found ds (choose ds last))
 
--- the chosen member with its desk
-abbrev pub seated : List Desk → ℕ → Chosen
-seated ds member = record { member = member; desk = held ds member }
-
-unfoldable pub chosen : List Desk → ℕ → Chosen
-chosen ds last = if may_turn (length ds) last then seated ds (choose ds last) else seated ds 0
-
--- a member's desk is made fresh, where there is one
-unfoldable pub emptied : List Desk → ℕ → List Desk
-emptied ds member = if may_submit (length ds) member then with_desk ds member fresh else ds
+-- the answer of a member served
+abbrev pub served : ℕ → Result Answer Refusal → Turn
+served member a =
+    record { turned = Ok (Served (outcome_of a)); member = member; events = events_of a; last = member }

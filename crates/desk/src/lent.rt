@@ -1,0 +1,51 @@
+// Desks, and the forms in which callers lend them.
+ghost use Rattle.std.specs.Prelude.{◌≡◌, List, map, refl};
+ghost use Rattle.desk.specs.Desk as d;
+ghost use Rattle.desk.specs.Lent.{map_itself};
+
+use change::Request;
+
+// A desk is empty, or holds a request.
+pub type Desk = Option<Request>;
+
+// A desk in the form that a caller lends.
+pub trait Lent: Copy {
+    // What it says.
+    ghost says: { Self → d.Desk };
+
+    // A list of them, read as desks.
+    ghost reads: { List Self → List d.Desk };
+
+    // One that says this.
+    ghost made: { d.Desk → Self };
+
+    fn desk(self) -> Desk
+        ensures { result ≡ says self };
+
+    fn lend(desk: Desk) -> Self
+        ensures { result ≡ made desk };
+
+    ghost reads_each: { (ds : List Self) → reads ds ≡ map says ds };
+
+    ghost says_made: { (d : d.Desk) → says (made d) ≡ d };
+}
+
+impl Lent for Option<Request> {
+    ghost says = { λ d. d };
+
+    ghost reads = { λ ds. ds };
+
+    ghost made = { λ d. d };
+
+    fn desk(self) -> Desk {
+        self
+    }
+
+    fn lend(desk: Desk) -> Desk {
+        desk
+    }
+
+    ghost reads_each = { map_itself };
+
+    ghost says_made = { λ d. refl };
+}
