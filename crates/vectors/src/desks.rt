@@ -22,10 +22,10 @@ fn on_fresh_pool(desks: Desks, last: u64, row: &[Step]) -> bool {
 fn one_desk() -> bool {
     let row = [
         Step::accepted(1, Request::Put(7, 70)),
-        Step::served(1, Outcome::New, 7),
-        Step::unserved(Turned::Idle, 1),
+        Step::served(1, Ok(Outcome::New), 7),
+        Step::unserved(Ok(Turned::Idle), 1),
         Step::accepted(1, Request::Fetch(7)),
-        Step::served(1, Outcome::Found(70), 0),
+        Step::served(1, Ok(Outcome::Found(70)), 0),
     ];
     on_fresh_pool(Desks::fresh(1), 0, &row)
 }
@@ -36,17 +36,17 @@ fn three_desks() -> bool {
         Step::accepted(1, Request::Put(1, 10)),
         Step::accepted(2, Request::Put(2, 20)),
         Step::accepted(3, Request::Fetch(1)),
-        Step::served(1, Outcome::New, 7),
+        Step::served(1, Ok(Outcome::New), 7),
         Step::accepted(1, Request::Delete(2)),
-        Step::served(2, Outcome::New, 7),
-        Step::served(3, Outcome::Found(10), 0),
-        Step::served(1, Outcome::Removed, 3),
-        Step::unserved(Turned::Idle, 1),
+        Step::served(2, Ok(Outcome::New), 7),
+        Step::served(3, Ok(Outcome::Found(10)), 0),
+        Step::served(1, Ok(Outcome::Removed), 3),
+        Step::unserved(Ok(Turned::Idle), 1),
         Step::accepted(1, Request::Put(1, 11)),
         Step::accepted(3, Request::Fetch(1)),
-        Step::served(3, Outcome::Found(10), 0),
-        Step::served(1, Outcome::Replaced, 3),
-        Step::unserved(Turned::Idle, 1),
+        Step::served(3, Ok(Outcome::Found(10)), 0),
+        Step::served(1, Ok(Outcome::Replaced), 3),
+        Step::unserved(Ok(Turned::Idle), 1),
     ];
     on_fresh_pool(Desks::fresh(3), 0, &row)
 }
@@ -57,8 +57,8 @@ fn sixteen_desks() -> bool {
         Step::accepted(1, Request::Put(1, 10)),
         Step::accepted(16, Request::Put(16, 160)),
         Step::refused(17, Request::Put(17, 170), Refusal::NoDesk),
-        Step::served(16, Outcome::New, 7),
-        Step::served(1, Outcome::New, 7),
+        Step::served(16, Ok(Outcome::New), 7),
+        Step::served(1, Ok(Outcome::New), 7),
     ];
     on_fresh_pool(Desks::fresh(16), 15, &row)
 }
@@ -70,10 +70,10 @@ fn full_desk() -> bool {
         Step::refused(2, Request::Put(1, 99), Refusal::FullDesk),
         Step::refused(0, Request::Put(1, 98), Refusal::NoDesk),
         Step::refused(4, Request::Put(1, 97), Refusal::NoDesk),
-        Step::served(2, Outcome::New, 7),
+        Step::served(2, Ok(Outcome::New), 7),
         Step::accepted(2, Request::Fetch(1)),
-        Step::served(2, Outcome::Found(10), 0),
-        Step::unserved(Turned::Idle, 2),
+        Step::served(2, Ok(Outcome::Found(10)), 0),
+        Step::unserved(Ok(Turned::Idle), 2),
     ];
     on_fresh_pool(Desks::fresh(3), 0, &row)
 }
@@ -82,7 +82,7 @@ fn full_desk() -> bool {
 fn no_desks(desks: Desks) -> bool {
     let row = [
         Step::refused(1, Request::Put(1, 10), Refusal::NoDesk),
-        Step::unserved(Turned::Refused(Refusal::NoDesk), 0),
+        Step::unserved(Err(Refusal::NoDesk), 0),
     ];
     on_fresh_pool(desks, 0, &row)
 }
@@ -91,7 +91,7 @@ fn no_desks(desks: Desks) -> bool {
 fn last_past_desks() -> bool {
     let row = [
         Step::accepted(1, Request::Put(1, 10)),
-        Step::unserved(Turned::Refused(Refusal::NoDesk), 4),
+        Step::unserved(Err(Refusal::NoDesk), 4),
         Step::refused(1, Request::Put(1, 99), Refusal::FullDesk),
     ];
     on_fresh_pool(Desks::fresh(3), 4, &row)
@@ -104,9 +104,9 @@ fn short_list() -> bool {
     make(&mut pool, &mut list, CAPACITY);
     let mut short = [0u64; LIST_WORDS - 1];
     let row = [
-        Step::unserved(Turned::Refused(Refusal::ShortList), 2),
+        Step::unserved(Err(Refusal::ShortList), 2),
         Step::accepted(1, Request::Put(1, 10)),
-        Step::unserved(Turned::Refused(Refusal::ShortList), 2),
+        Step::unserved(Err(Refusal::ShortList), 2),
         Step::refused(1, Request::Put(1, 99), Refusal::FullDesk),
     ];
     run(&mut pool, &mut short, Desks::fresh(3), 2, &row)
@@ -117,8 +117,8 @@ fn none_full() -> bool {
     let mut pool = [0u64; Pool::WORDS_LEAST as usize];
     let mut list = [0u64; LIST_WORDS];
     let row = [
-        Step::unserved(Turned::Idle, 2),
-        Step::unserved(Turned::Idle, 2),
+        Step::unserved(Ok(Turned::Idle), 2),
+        Step::unserved(Ok(Turned::Idle), 2),
     ];
     run(&mut pool, &mut list, Desks::fresh(3), 2, &row)
 }
@@ -127,10 +127,10 @@ fn none_full() -> bool {
 fn refused_row(request: Request, why: Refusal) -> [Step; 5] {
     [
         Step::accepted(2, request),
-        Step::served(2, Outcome::Refused(why), 0),
-        Step::unserved(Turned::Idle, 2),
+        Step::served(2, Err(why), 0),
+        Step::unserved(Ok(Turned::Idle), 2),
         Step::accepted(2, request),
-        Step::served(2, Outcome::Refused(why), 0),
+        Step::served(2, Err(why), 0),
     ]
 }
 
@@ -161,13 +161,13 @@ fn seven_puts() -> [Step; 14] {
         Step::accepted(5, Request::Put(50, 5)),
         Step::accepted(6, Request::Put(60, 6)),
         Step::accepted(7, Request::Put(70, 7)),
-        Step::served(1, Outcome::New, 7),
-        Step::served(2, Outcome::New, 7),
-        Step::served(3, Outcome::New, 7),
-        Step::served(4, Outcome::New, 7),
-        Step::served(5, Outcome::New, 7),
-        Step::served(6, Outcome::New, 7),
-        Step::served(7, Outcome::New, 7),
+        Step::served(1, Ok(Outcome::New), 7),
+        Step::served(2, Ok(Outcome::New), 7),
+        Step::served(3, Ok(Outcome::New), 7),
+        Step::served(4, Ok(Outcome::New), 7),
+        Step::served(5, Ok(Outcome::New), 7),
+        Step::served(6, Ok(Outcome::New), 7),
+        Step::served(7, Ok(Outcome::New), 7),
     ]
 }
 

@@ -3,8 +3,9 @@ ghost use Rattle.std.specs.Prelude.{◌≡◌, ◌≤◌};
 ghost use Rattle.desk.specs.Turn.{submit_desks, turn_desks};
 
 use change::Request;
-use desk::{Desk, Submitted, Turn};
+use desk::{Desk, Turn};
 use std::marker::Model;
+use words::Refusal;
 
 #[derive(Drop)]
 pub struct Desks {
@@ -15,7 +16,7 @@ pub struct Desks {
 // The desks that are lent, and the others.
 impl Model for Desks {
     ghost use Rattle.std.specs.Prelude.{◌≤◌, List, take, drop};
-    ghost use Rattle.desk.specs.declared.record.Desk.{Desk};
+    ghost use Rattle.desk.specs.Desk.{Desk};
 
     ghost Value = { List Desk × List Desk };
 
@@ -29,12 +30,12 @@ impl Desks {
         requires { lent ≤ 17 }
     {
         Desks {
-            all: [Desk::FRESH; 17],
+            all: [None; 17],
             lent,
         }
     }
 
-    pub fn submit(&mut self, member: u64, request: Request) -> Submitted
+    pub fn submit(&mut self, member: u64, request: Request) -> Result<(), Refusal>
         ensures { self.new ≡ (submit_desks self.old.0 member request, self.old.1) }
     {
         desk::submit(&mut self.all[..self.lent], member, request)

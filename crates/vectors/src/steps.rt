@@ -2,27 +2,27 @@
 // them, and a turn the last served that the turn before answered.
 use crate::lending::Desks;
 use change::{Outcome, Request};
-use desk::{Submitted, Turn, Turned};
+use desk::{Turn, Turned};
 use words::Refusal;
 
 #[derive(Clone, Copy)]
 pub enum Step {
-    Submit(u64, Request, Submitted),
+    Submit(u64, Request, Result<(), Refusal>),
     Turn(Turn),
 }
 
 impl Step {
     pub fn accepted(member: u64, request: Request) -> Step {
-        Step::Submit(member, request, Submitted::Accepted)
+        Step::Submit(member, request, Ok(()))
     }
 
     pub fn refused(member: u64, request: Request, why: Refusal) -> Step {
-        Step::Submit(member, request, Submitted::Refused(why))
+        Step::Submit(member, request, Err(why))
     }
 
-    pub fn served(member: u64, outcome: Outcome, events: u64) -> Step {
+    pub fn served(member: u64, answer: Result<Outcome, Refusal>, events: u64) -> Step {
         Step::Turn(Turn {
-            turned: Turned::Served(outcome),
+            turned: Ok(Turned::Served(answer)),
             member,
             events,
             last: member,
@@ -30,7 +30,7 @@ impl Step {
     }
 
     // A turn that serves nobody, and answers the last served as handed.
-    pub fn unserved(turned: Turned, last: u64) -> Step {
+    pub fn unserved(turned: Result<Turned, Refusal>, last: u64) -> Step {
         Step::Turn(Turn {
             turned,
             member: 0,
