@@ -1,6 +1,6 @@
 // The pools of the trials, and a request served on one: planned, then carried out.
-use change::{Answer, Formatted, Request};
-use words::Pool;
+use change::{Answer, Request};
+use words::{Pool, Refusal};
 
 // The nodes of the largest pool.
 pub const CAPACITY: u64 = 100;
@@ -11,13 +11,13 @@ pub const POOL_WORDS: usize = (Pool::NODES_AT + Pool::NODE_WORDS * CAPACITY) as 
 pub const LIST_WORDS: usize = Pool::LIST_WORDS as usize;
 
 pub fn make(pool: &mut [u64], list: &mut [u64], capacity: u64) {
-    if let Formatted::Planned(events) = pool::format(pool, list, capacity) {
+    if let Ok(events) = pool::format(pool, list, capacity) {
         words::carry_all(pool, list, events);
     }
 }
 
-pub fn serve(pool: &mut [u64], list: &mut [u64], request: Request) -> Answer {
-    let answer = pool::serve(pool, list, request);
+pub fn serve(pool: &mut [u64], list: &mut [u64], request: Request) -> Result<Answer, Refusal> {
+    let answer = pool::serve(pool, list, request)?;
     words::carry_all(pool, list, answer.events);
-    answer
+    Ok(answer)
 }

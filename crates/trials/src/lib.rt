@@ -5,3 +5,4 @@ pub mod asking;
 mod model;
 pub mod rows;
 pub mod tally;
+pub mod trial;

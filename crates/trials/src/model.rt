@@ -1,110 +1,70 @@
-// The records that a pool should hold, as a plain list of keys and values.
+// The records that a pool should hold, as a plain list.
+ghost use Rattle.std.specs.Prelude.{◌<◌, ◌≤◌, IfSome};
+ghost use Rattle.trials.specs.declared.model.TheConstants.{MOST};
+
 use change::{Outcome, Request};
 
+const MOST: usize = 1024;
+
+// The first n are held.
 #[derive(Drop)]
-pub struct Model {}
+pub struct Model {
+    records: [(u64, u64); MOST],
+    n: usize,
+    ghost within: { n ≤ MOST },
+}
 
 impl Model {
-    pub const MOST: usize = 1024;
-}
+    pub const EMPTY: Model = Model {
+        records: [(0, 0); MOST],
+        n: 0,
+    };
 
-// Where a key stands among the first n, or the end of the list.
-fn find(keys: &[u64; Model::MOST], n: usize, key: u64) -> usize {
-    let mut i = 0;
-    while i < Model::MOST {
-        if n <= i {
-            return Model::MOST;
-        }
-        if keys[i] == key {
-            return i;
-        }
-        i += 1;
+    // Where a key stands among the records.
+    fn find(&self, key: u64) -> Option<usize>
+        ensures { IfSome result (λ i. i < self.now.n) }
+    {
+        self.records[..self.n]
+            .iter()
+            .position(|record| record.0 == key)
     }
-    i
-}
 
-// What a request should be answered.
-pub fn expected(
-    keys: &[u64; Model::MOST],
-    values: &[u64; Model::MOST],
-    n: usize,
-    request: Request,
-) -> Outcome {
-    match request {
-        Request::Put(key, _) => {
-            if find(keys, n, key) < Model::MOST {
-                return Outcome::Replaced;
+    // What a request should be answered.
+    pub fn expected(&self, request: Request) -> Outcome {
+        match request {
+            Request::Put(key, _) => self.find(key).map_or(Outcome::New, |_| Outcome::Replaced),
+            Request::Fetch(key) => self
+                .find(key)
+                .map_or(Outcome::Absent, |i| Outcome::Found(self.records[i].1)),
+            Request::Delete(key) => self.find(key).map_or(Outcome::Absent, |_| Outcome::Removed),
+        }
+    }
+
+    fn put(&mut self, key: u64, value: u64) {
+        match self.find(key) {
+            Some(i) => self.records[i].1 = value,
+            None if self.n < MOST => {
+                self.records[self.n] = (key, value);
+                self.n += 1;
             }
-            Outcome::New
-        }
-        Request::Fetch(key) => {
-            let i = find(keys, n, key);
-            if i < Model::MOST {
-                return Outcome::Found(values[i]);
-            }
-            Outcome::Absent
-        }
-        Request::Delete(key) => {
-            if find(keys, n, key) < Model::MOST {
-                return Outcome::Removed;
-            }
-            Outcome::Absent
+            None => {}
         }
     }
-}
 
-fn put(
-    keys: &mut [u64; Model::MOST],
-    values: &mut [u64; Model::MOST],
-    n: usize,
-    key: u64,
-    value: u64,
-) -> usize {
-    let i = find(keys, n, key);
-    if i < Model::MOST {
-        values[i] = value;
-        return n;
+    // The last record takes the place of the one that goes.
+    fn delete(&mut self, key: u64) {
+        if let Some(i) = self.find(key) {
+            self.n -= 1;
+            self.records[i] = self.records[self.n];
+        }
     }
-    if n < Model::MOST {
-        keys[n] = key;
-        values[n] = value;
-        return n + 1;
-    }
-    n
-}
 
-// The last record takes the place of the one that goes.
-fn delete(
-    keys: &mut [u64; Model::MOST],
-    values: &mut [u64; Model::MOST],
-    n: usize,
-    key: u64,
-) -> usize {
-    let i = find(keys, n, key);
-    if Model::MOST <= i {
-        return n;
-    }
-    if n == 0 {
-        return n;
-    }
-    if Model::MOST < n {
-        return n;
-    }
-    keys[i] = keys[n - 1];
-    values[i] = values[n - 1];
-    n - 1
-}
-
-// The request is carried out on the list: answers how many records it has then.
-pub fn apply(
-    keys: &mut [u64; Model::MOST],
-    values: &mut [u64; Model::MOST],
-    n: usize,
-    request: Request,
-) -> usize {
-    match request {
-        Request::Put(key, value) => put(keys, values, n, key, value),
-        Request::Fetch(_) => n,
-        Request::Delete(key) => delete(keys, values, n, key),
+    // The request is carried out on the list.
+    pub fn apply(&mut self, request: Request) {
+        match request {
+            Request::Put(key, value) => self.put(key, value),
+            Request::Fetch(_) => {}
+            Request::Delete(key) => self.delete(key),
+        }
     }
 }

@@ -1,6 +1,7 @@
 // Rows of submits and turns on lent desks, with the answers that were worked out by hand.
 ghost use Rattle.std.specs.Prelude.{◌≤◌};
 
+use crate::lending::Desks;
 use crate::report::tell_whether;
 use crate::steps::{Step, run};
 use change::{Outcome, Request};
@@ -9,89 +10,91 @@ use std::io;
 use trials::asking::{CAPACITY, LIST_WORDS, POOL_WORDS, make};
 use words::{Pool, Refusal};
 
-// A row on so many desks and a fresh pool.
-fn on_fresh_pool(count: usize, last: u64, row: [Step; 16]) -> bool
-    requires { count ≤ 17 }
-{
+// A row on a fresh pool.
+fn on_fresh_pool(desks: Desks, last: u64, row: &[Step]) -> bool {
     let mut pool = [0u64; POOL_WORDS];
     let mut list = [0u64; LIST_WORDS];
     make(&mut pool, &mut list, CAPACITY);
-    run(&mut pool, &mut list, count, last, row)
+    run(&mut pool, &mut list, desks, last, row)
 }
 
 // "One desk: next turn serves it."
 fn one_desk() -> bool {
-    let mut row = [Step::Done; 16];
-    row[0] = Step::accepted(1, Request::Put(7, 70));
-    row[1] = Step::served(1, Outcome::New, 7);
-    row[2] = Step::unserved(Turned::Idle, 1);
-    row[3] = Step::accepted(1, Request::Fetch(7));
-    row[4] = Step::served(1, Outcome::Found(70), 0);
-    on_fresh_pool(1, 0, row)
+    let row = [
+        Step::accepted(1, Request::Put(7, 70)),
+        Step::served(1, Ok(Outcome::New), 7),
+        Step::unserved(Ok(Turned::Idle), 1),
+        Step::accepted(1, Request::Fetch(7)),
+        Step::served(1, Ok(Outcome::Found(70)), 0),
+    ];
+    on_fresh_pool(Desks::fresh(1), 0, &row)
 }
 
 // A desk that submits again at once waits its round; with last served 1, the third desk comes before the first.
 fn three_desks() -> bool {
-    let mut row = [Step::Done; 16];
-    row[0] = Step::accepted(1, Request::Put(1, 10));
-    row[1] = Step::accepted(2, Request::Put(2, 20));
-    row[2] = Step::accepted(3, Request::Fetch(1));
-    row[3] = Step::served(1, Outcome::New, 7);
-    row[4] = Step::accepted(1, Request::Delete(2));
-    row[5] = Step::served(2, Outcome::New, 7);
-    row[6] = Step::served(3, Outcome::Found(10), 0);
-    row[7] = Step::served(1, Outcome::Removed, 3);
-    row[8] = Step::unserved(Turned::Idle, 1);
-    row[9] = Step::accepted(1, Request::Put(1, 11));
-    row[10] = Step::accepted(3, Request::Fetch(1));
-    row[11] = Step::served(3, Outcome::Found(10), 0);
-    row[12] = Step::served(1, Outcome::Replaced, 3);
-    row[13] = Step::unserved(Turned::Idle, 1);
-    on_fresh_pool(3, 0, row)
+    let row = [
+        Step::accepted(1, Request::Put(1, 10)),
+        Step::accepted(2, Request::Put(2, 20)),
+        Step::accepted(3, Request::Fetch(1)),
+        Step::served(1, Ok(Outcome::New), 7),
+        Step::accepted(1, Request::Delete(2)),
+        Step::served(2, Ok(Outcome::New), 7),
+        Step::served(3, Ok(Outcome::Found(10)), 0),
+        Step::served(1, Ok(Outcome::Removed), 3),
+        Step::unserved(Ok(Turned::Idle), 1),
+        Step::accepted(1, Request::Put(1, 11)),
+        Step::accepted(3, Request::Fetch(1)),
+        Step::served(3, Ok(Outcome::Found(10)), 0),
+        Step::served(1, Ok(Outcome::Replaced), 3),
+        Step::unserved(Ok(Turned::Idle), 1),
+    ];
+    on_fresh_pool(Desks::fresh(3), 0, &row)
 }
 
 // The last of the most desks comes before the first where 15 was last served.
 fn sixteen_desks() -> bool {
-    let mut row = [Step::Done; 16];
-    row[0] = Step::accepted(1, Request::Put(1, 10));
-    row[1] = Step::accepted(16, Request::Put(16, 160));
-    row[2] = Step::refused(17, Request::Put(17, 170), Refusal::NoDesk);
-    row[3] = Step::served(16, Outcome::New, 7);
-    row[4] = Step::served(1, Outcome::New, 7);
-    on_fresh_pool(16, 15, row)
+    let row = [
+        Step::accepted(1, Request::Put(1, 10)),
+        Step::accepted(16, Request::Put(16, 160)),
+        Step::refused(17, Request::Put(17, 170), Refusal::NoDesk),
+        Step::served(16, Ok(Outcome::New), 7),
+        Step::served(1, Ok(Outcome::New), 7),
+    ];
+    on_fresh_pool(Desks::fresh(16), 15, &row)
 }
 
 // A full desk keeps its first request. There is no member 0, and none past the desks.
 fn full_desk() -> bool {
-    let mut row = [Step::Done; 16];
-    row[0] = Step::accepted(2, Request::Put(1, 10));
-    row[1] = Step::refused(2, Request::Put(1, 99), Refusal::FullDesk);
-    row[2] = Step::refused(0, Request::Put(1, 98), Refusal::NoDesk);
-    row[3] = Step::refused(4, Request::Put(1, 97), Refusal::NoDesk);
-    row[4] = Step::served(2, Outcome::New, 7);
-    row[5] = Step::accepted(2, Request::Fetch(1));
-    row[6] = Step::served(2, Outcome::Found(10), 0);
-    row[7] = Step::unserved(Turned::Idle, 2);
-    on_fresh_pool(3, 0, row)
+    let row = [
+        Step::accepted(2, Request::Put(1, 10)),
+        Step::refused(2, Request::Put(1, 99), Refusal::FullDesk),
+        Step::refused(0, Request::Put(1, 98), Refusal::NoDesk),
+        Step::refused(4, Request::Put(1, 97), Refusal::NoDesk),
+        Step::served(2, Ok(Outcome::New), 7),
+        Step::accepted(2, Request::Fetch(1)),
+        Step::served(2, Ok(Outcome::Found(10)), 0),
+        Step::unserved(Ok(Turned::Idle), 2),
+    ];
+    on_fresh_pool(Desks::fresh(3), 0, &row)
 }
 
 // A list of desks that is empty, or over 16.
-fn no_desks(count: usize) -> bool
-    requires { count ≤ 17 }
-{
-    let mut row = [Step::Done; 16];
-    row[0] = Step::refused(1, Request::Put(1, 10), Refusal::NoDesk);
-    row[1] = Step::unserved(Turned::Refused(Refusal::NoDesk), 0);
-    on_fresh_pool(count, 0, row)
+fn no_desks(desks: Desks) -> bool {
+    let row = [
+        Step::refused(1, Request::Put(1, 10), Refusal::NoDesk),
+        Step::unserved(Err(Refusal::NoDesk), 0),
+    ];
+    on_fresh_pool(desks, 0, &row)
 }
 
 // A last served past the desks: the turn is refused, and leaves the desk full.
 fn last_past_desks() -> bool {
-    let mut row = [Step::Done; 16];
-    row[0] = Step::accepted(1, Request::Put(1, 10));
-    row[1] = Step::unserved(Turned::Refused(Refusal::NoDesk), 4);
-    row[2] = Step::refused(1, Request::Put(1, 99), Refusal::FullDesk);
-    on_fresh_pool(3, 4, row)
+    let row = [
+        Step::accepted(1, Request::Put(1, 10)),
+        Step::unserved(Err(Refusal::NoDesk), 4),
+        Step::refused(1, Request::Put(1, 99), Refusal::FullDesk),
+    ];
+    on_fresh_pool(Desks::fresh(3), 4, &row)
 }
 
 // A list of 371 words: the turn is refused whether or not a desk is full, and leaves it full.
@@ -99,34 +102,36 @@ fn short_list() -> bool {
     let mut pool = [0u64; POOL_WORDS];
     let mut list = [0u64; LIST_WORDS];
     make(&mut pool, &mut list, CAPACITY);
-    let mut row = [Step::Done; 16];
-    row[0] = Step::unserved(Turned::Refused(Refusal::ShortList), 2);
-    row[1] = Step::accepted(1, Request::Put(1, 10));
-    row[2] = Step::unserved(Turned::Refused(Refusal::ShortList), 2);
-    row[3] = Step::refused(1, Request::Put(1, 99), Refusal::FullDesk);
     let mut short = [0u64; LIST_WORDS - 1];
-    run(&mut pool, &mut short, 3, 2, row)
+    let row = [
+        Step::unserved(Err(Refusal::ShortList), 2),
+        Step::accepted(1, Request::Put(1, 10)),
+        Step::unserved(Err(Refusal::ShortList), 2),
+        Step::refused(1, Request::Put(1, 99), Refusal::FullDesk),
+    ];
+    run(&mut pool, &mut short, Desks::fresh(3), 2, &row)
 }
 
 // "With none full [..]: Idle, on any pool, member 0, 0 events, last served as handed."
 fn none_full() -> bool {
     let mut pool = [0u64; Pool::WORDS_LEAST as usize];
     let mut list = [0u64; LIST_WORDS];
-    let mut row = [Step::Done; 16];
-    row[0] = Step::unserved(Turned::Idle, 2);
-    row[1] = Step::unserved(Turned::Idle, 2);
-    run(&mut pool, &mut list, 3, 2, row)
+    let row = [
+        Step::unserved(Ok(Turned::Idle), 2),
+        Step::unserved(Ok(Turned::Idle), 2),
+    ];
+    run(&mut pool, &mut list, Desks::fresh(3), 2, &row)
 }
 
 // "Inside a turn 2 to 5 become the member's answer and the desk is emptied."
-fn refused_row(request: Request, why: Refusal) -> [Step; 16] {
-    let mut row = [Step::Done; 16];
-    row[0] = Step::accepted(2, request);
-    row[1] = Step::served(2, Outcome::Refused(why), 0);
-    row[2] = Step::unserved(Turned::Idle, 2);
-    row[3] = Step::accepted(2, request);
-    row[4] = Step::served(2, Outcome::Refused(why), 0);
-    row
+fn refused_row(request: Request, why: Refusal) -> [Step; 5] {
+    [
+        Step::accepted(2, request),
+        Step::served(2, Err(why), 0),
+        Step::unserved(Ok(Turned::Idle), 2),
+        Step::accepted(2, request),
+        Step::served(2, Err(why), 0),
+    ]
 }
 
 // A fresh pool of which one word of the header, or the commit word, is another number.
@@ -140,30 +145,30 @@ fn with_word(at: u64, word: u64, why: Refusal) -> bool
     run(
         &mut pool,
         &mut list,
-        3,
+        Desks::fresh(3),
         0,
-        refused_row(Request::Put(7, 70), why),
+        &refused_row(Request::Put(7, 70), why),
     )
 }
 
 // Seven members put a key each.
-fn seven_puts() -> [Step; 16] {
-    let mut row = [Step::Done; 16];
-    row[0] = Step::accepted(1, Request::Put(10, 1));
-    row[1] = Step::accepted(2, Request::Put(20, 2));
-    row[2] = Step::accepted(3, Request::Put(30, 3));
-    row[3] = Step::accepted(4, Request::Put(40, 4));
-    row[4] = Step::accepted(5, Request::Put(50, 5));
-    row[5] = Step::accepted(6, Request::Put(60, 6));
-    row[6] = Step::accepted(7, Request::Put(70, 7));
-    row[7] = Step::served(1, Outcome::New, 7);
-    row[8] = Step::served(2, Outcome::New, 7);
-    row[9] = Step::served(3, Outcome::New, 7);
-    row[10] = Step::served(4, Outcome::New, 7);
-    row[11] = Step::served(5, Outcome::New, 7);
-    row[12] = Step::served(6, Outcome::New, 7);
-    row[13] = Step::served(7, Outcome::New, 7);
-    row
+fn seven_puts() -> [Step; 14] {
+    [
+        Step::accepted(1, Request::Put(10, 1)),
+        Step::accepted(2, Request::Put(20, 2)),
+        Step::accepted(3, Request::Put(30, 3)),
+        Step::accepted(4, Request::Put(40, 4)),
+        Step::accepted(5, Request::Put(50, 5)),
+        Step::accepted(6, Request::Put(60, 6)),
+        Step::accepted(7, Request::Put(70, 7)),
+        Step::served(1, Ok(Outcome::New), 7),
+        Step::served(2, Ok(Outcome::New), 7),
+        Step::served(3, Ok(Outcome::New), 7),
+        Step::served(4, Ok(Outcome::New), 7),
+        Step::served(5, Ok(Outcome::New), 7),
+        Step::served(6, Ok(Outcome::New), 7),
+        Step::served(7, Ok(Outcome::New), 7),
+    ]
 }
 
 // The only node of a pool is full.
@@ -171,39 +176,39 @@ fn no_room() -> bool {
     let mut pool = [0u64; Pool::WORDS_LEAST as usize];
     let mut list = [0u64; LIST_WORDS];
     make(&mut pool, &mut list, 1);
-    let filled = run(&mut pool, &mut list, 7, 0, seven_puts());
+    let filled = run(&mut pool, &mut list, Desks::fresh(7), 0, &seven_puts());
     let new = refused_row(Request::Put(80, 8), Refusal::NoRoom);
-    filled & run(&mut pool, &mut list, 3, 0, new)
+    filled && run(&mut pool, &mut list, Desks::fresh(3), 0, &new)
 }
 
 fn tell_refusals(rt: &impl Print) -> io::Result<()> {
-    tell_whether(rt, b"full desk", full_desk())?;
-    tell_whether(rt, b"no desks", no_desks(0))?;
-    tell_whether(rt, b"seventeen desks", no_desks(17))?;
-    tell_whether(rt, b"last served past the desks", last_past_desks())?;
-    tell_whether(rt, b"turn with a short list", short_list())?;
+    tell_whether(rt, "full desk", full_desk())?;
+    tell_whether(rt, "no desks", no_desks(Desks::fresh(0)))?;
+    tell_whether(rt, "seventeen desks", no_desks(Desks::fresh(17)))?;
+    tell_whether(rt, "last served past the desks", last_past_desks())?;
+    tell_whether(rt, "turn with a short list", short_list())?;
     tell_whether(
         rt,
-        b"no pool in a turn",
+        "no pool in a turn",
         with_word(Pool::FORM_AT, 0, Refusal::NoPool),
     )?;
     tell_whether(
         rt,
-        b"unfinished in a turn",
+        "unfinished in a turn",
         with_word(Pool::COMMIT_AT, 1, Refusal::Unfinished),
     )?;
     tell_whether(
         rt,
-        b"damaged in a turn",
+        "damaged in a turn",
         with_word(Pool::ROOT_AT, 2, Refusal::Damaged),
     )?;
-    tell_whether(rt, b"no room in a turn", no_room())
+    tell_whether(rt, "no room in a turn", no_room())
 }
 
 pub fn tell_desks(rt: &impl Print) -> io::Result<()> {
-    tell_whether(rt, b"one desk", one_desk())?;
-    tell_whether(rt, b"three desks", three_desks())?;
-    tell_whether(rt, b"sixteen desks", sixteen_desks())?;
-    tell_whether(rt, b"no desk full", none_full())?;
+    tell_whether(rt, "one desk", one_desk())?;
+    tell_whether(rt, "three desks", three_desks())?;
+    tell_whether(rt, "sixteen desks", sixteen_desks())?;
+    tell_whether(rt, "no desk full", none_full())?;
     tell_refusals(rt)
 }

@@ -1,43 +1,49 @@
-// Submit and turn on a lent slice of desks. A case keeps desks by value, one more than the most, of which the first are lent; the answer
-// is held against the one that was worked out, in what is seen.
-ghost use Rattle.std.specs.Prelude.{◌≡◌, ◌≤◌, ◌++◌, take, drop};
+// Submit and turn on a lent slice of desks. A case keeps its desks by value, one more than the most, of which the first are lent.
+ghost use Rattle.std.specs.Prelude.{◌≡◌, ◌≤◌};
 ghost use Rattle.desk.specs.Turn.{submit_desks, turn_desks};
 
-use crate::seen::{note_submitted, note_turn};
 use change::Request;
-use desk::{Desk, Submitted, Turn};
+use desk::{Desk, Turn};
+use std::marker::Model;
+use words::Refusal;
 
-// The desks after a submit.
-pub fn submit(
-    seen: &mut [u64; 2],
-    mut desks: [Desk; 17],
-    count: usize,
-    member: u64,
-    request: Request,
-    want: Submitted,
-) -> [Desk; 17]
-    requires { count ≤ 17 }
-    ensures { result ≡ submit_desks (take count desks) member request ++ drop count desks }
-{
-    let answer = desk::submit(&mut desks[..count], member, request);
-    note_submitted(seen, answer, want);
-    desks
+#[derive(Drop)]
+pub struct Desks {
+    all: [Desk; 17],
+    lent: usize,
 }
 
-// The desks after a turn.
-pub fn turn(
-    seen: &mut [u64; 2],
-    pool: &mut [u64],
-    list: &mut [u64],
-    mut desks: [Desk; 17],
-    count: usize,
-    last: u64,
-    want: Turn,
-) -> [Desk; 17]
-    requires { count ≤ 17 }
-    ensures { result ≡ turn_desks pool.old list.old (take count desks) last ++ drop count desks }
-{
-    let answer = desk::turn(pool, list, &mut desks[..count], last);
-    note_turn(seen, answer, want);
-    desks
+// The desks that are lent, and the others.
+impl Model for Desks {
+    ghost use Rattle.std.specs.Prelude.{◌≤◌, List, take, drop};
+    ghost use Rattle.desk.specs.Desk.{Desk};
+
+    ghost Value = { List Desk × List Desk };
+
+    ghost view = { λ d. (take d.lent d.all, drop d.lent d.all) };
+
+    ghost invariant = { λ d. d.lent ≤ 17 };
+}
+
+impl Desks {
+    pub fn fresh(lent: usize) -> Desks
+        requires { lent ≤ 17 }
+    {
+        Desks {
+            all: [None; 17],
+            lent,
+        }
+    }
+
+    pub fn submit(&mut self, member: u64, request: Request) -> Result<(), Refusal>
+        ensures { self.new ≡ (submit_desks self.old.0 member request, self.old.1) }
+    {
+        desk::submit(&mut self.all[..self.lent], member, request)
+    }
+
+    pub fn turn(&mut self, pool: &mut [u64], list: &mut [u64], last: u64) -> Turn
+        ensures { self.new ≡ (turn_desks pool.old list.old self.old.0 last, self.old.1) }
+    {
+        desk::turn(pool, list, &mut self.all[..self.lent], last)
+    }
 }

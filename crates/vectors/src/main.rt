@@ -6,137 +6,113 @@
 mod desks;
 mod lending;
 mod report;
-mod seen;
 mod steps;
 
-ghost use Rattle.std.specs.Prelude.{◌≤◌};
-
-use report::{Want, tell};
+use report::tell;
 use std::io;
 use std::process::ExitCode;
 use trials::asking::CAPACITY;
-use trials::rows::{Part, Row, play};
+use trials::rows::{Part, Row};
+use trials::tally::Tally;
+use trials::trial::play;
 
 // One leaf.
 fn leaves(rt: &impl Print) -> io::Result<()> {
-    let leaf = Part::put(Row::RISING, 0, 7);
+    let leaf = Part::put(Row::Rising, 0, 7);
+    tell(rt, "leaf", play(CAPACITY, &[leaf]), Tally::sound(49, 0, 1))?;
     tell(
         rt,
-        b"leaf",
-        play(CAPACITY, leaf, Part::NONE, Part::NONE),
-        Want::of(49, 0, 1),
+        "replace",
+        play(CAPACITY, &[leaf, leaf]),
+        Tally::sound(70, 0, 1),
     )?;
     tell(
         rt,
-        b"replace",
-        play(CAPACITY, leaf, leaf, Part::NONE),
-        Want::of(70, 0, 1),
-    )?;
-    tell(
-        rt,
-        b"delete",
-        play(CAPACITY, leaf, Part::delete(Row::RISING, 2, 3), leaf),
-        Want::of(77, 0, 1),
+        "delete",
+        play(CAPACITY, &[leaf, Part::delete(Row::Rising, 2, 3), leaf]),
+        Tally::sound(77, 0, 1),
     )
 }
 
 // The splits of a full leaf, and pools that have no node to spare.
 fn splits(rt: &impl Print) -> io::Result<()> {
-    let leaf = Part::put(Row::RISING, 0, 7);
-    let eighth = Part::put(Row::RISING, 7, 8);
+    let leaf = Part::put(Row::Rising, 0, 7);
+    let eighth = Part::put(Row::Rising, 7, 8);
     tell(
         rt,
-        b"split above",
-        play(CAPACITY, leaf, eighth, Part::NONE),
-        Want::of(96, 0, 2),
+        "split above",
+        play(CAPACITY, &[leaf, eighth]),
+        Tally::sound(96, 0, 2),
     )?;
     tell(
         rt,
-        b"split below",
-        play(CAPACITY, leaf, Part::put(Row::LOW, 0, 1), Part::NONE),
-        Want::of(104, 0, 2),
+        "split below",
+        play(CAPACITY, &[leaf, Part::put(Row::Low, 0, 1)]),
+        Tally::sound(104, 0, 2),
     )?;
     tell(
         rt,
-        b"two nodes",
-        play(2, leaf, eighth, leaf),
-        Want::of(70, 1, 1),
+        "two nodes",
+        play(2, &[leaf, eighth, leaf]),
+        Tally::sound(70, 1, 1),
     )?;
     tell(
         rt,
-        b"three nodes",
-        play(3, leaf, eighth, Part::fetch(Row::RISING, 0, 9)),
-        Want::of(96, 0, 2),
+        "three nodes",
+        play(3, &[leaf, eighth, Part::fetch(Row::Rising, 0, 9)]),
+        Tally::sound(96, 0, 2),
     )
 }
 
 // Puts of a row, then fetches of its keys and of others.
-fn tell_row(rt: &impl Print, name: &[u8], row: u64, count: u64, want: Want) -> io::Result<()>
-    requires { count ≤ 900 }
-{
-    let fetches = Part::fetch(row, 0, count + 50);
-    tell(
-        rt,
-        name,
-        play(CAPACITY, Part::put(row, 0, count), fetches, Part::NONE),
-        want,
-    )
+fn tell_row(rt: &impl Print, name: &str, row: Row, count: u64, want: Tally) -> io::Result<()> {
+    let puts = Part::put(row, 0, count);
+    let fetches = Part::fetch(row, 0, count.saturating_add(50));
+    tell(rt, name, play(CAPACITY, &[puts, fetches]), want)
 }
 
 fn trees(rt: &impl Print) -> io::Result<()> {
-    tell_row(rt, b"rising", Row::RISING, 250, Want::of(4288, 0, 4))?;
-    tell_row(rt, b"falling", Row::FALLING, 250, Want::of(5018, 0, 4))?;
-    tell_row(rt, b"from both ends", Row::ENDS, 300, Want::of(5282, 0, 4))?;
-    tell_row(rt, b"scattered", Row::SCATTERED, 350, Want::of(5620, 0, 4))?;
-    tell_row(
-        rt,
-        b"least and largest keys",
-        Row::LIMITS,
-        200,
-        Want::of(3732, 0, 4),
-    )
+    let cases = [
+        ("rising", Row::Rising, 250, 4288),
+        ("falling", Row::Falling, 250, 5018),
+        ("from both ends", Row::Ends, 300, 5282),
+        ("scattered", Row::Scattered, 350, 5620),
+        ("least and largest keys", Row::Limits, 200, 3732),
+    ];
+    for (name, row, count, events) in cases {
+        tell_row(rt, name, row, count, Tally::sound(events, 0, 4))?;
+    }
+    Ok(())
 }
 
 // More puts than a pool of 100 nodes takes.
 fn full_pools(rt: &impl Print) -> io::Result<()> {
-    tell_row(
-        rt,
-        b"full, rising",
-        Row::RISING,
-        900,
-        Want::of(5567, 577, 4),
-    )?;
-    tell_row(
-        rt,
-        b"full, falling",
-        Row::FALLING,
-        900,
-        Want::of(6174, 593, 4),
-    )?;
-    tell_row(
-        rt,
-        b"full, scattered",
-        Row::SCATTERED,
-        900,
-        Want::of(8038, 319, 4),
-    )
+    let cases = [
+        ("full, rising", Row::Rising, 5567, 577),
+        ("full, falling", Row::Falling, 6174, 593),
+        ("full, scattered", Row::Scattered, 8038, 319),
+    ];
+    for (name, row, events, refused) in cases {
+        tell_row(rt, name, row, 900, Tally::sound(events, refused, 4))?;
+    }
+    Ok(())
 }
 
 fn deletes(rt: &impl Print) -> io::Result<()> {
-    let puts = Part::put(Row::SCATTERED, 0, 250);
-    let all = Part::delete(Row::SCATTERED, 0, 250);
-    let some = Part::delete(Row::SCATTERED, 50, 200);
+    let puts = Part::put(Row::Scattered, 0, 250);
+    let all = Part::delete(Row::Scattered, 0, 250);
+    let some = Part::delete(Row::Scattered, 50, 200);
     tell(
         rt,
-        b"emptied",
-        play(CAPACITY, puts, all, Part::fetch(Row::SCATTERED, 0, 250)),
-        Want::of(4671, 0, 3),
+        "emptied",
+        play(CAPACITY, &[puts, all, Part::fetch(Row::Scattered, 0, 250)]),
+        Tally::sound(4671, 0, 3),
     )?;
     tell(
         rt,
-        b"put again",
-        play(CAPACITY, puts, some, puts),
-        Want::of(5721, 0, 3),
+        "put again",
+        play(CAPACITY, &[puts, some, puts]),
+        Tally::sound(5721, 0, 3),
     )
 }
 
@@ -151,8 +127,8 @@ fn tell_all(rt: &impl Print) -> io::Result<()> {
 
 // Where it cannot print, the status alone tells of it.
 fn main(rt: HostRuntime) -> ExitCode {
-    if tell_all(&rt).is_ok() {
-        return ExitCode::SUCCESS;
+    match tell_all(&rt) {
+        Ok(()) => ExitCode::SUCCESS,
+        Err(_) => ExitCode::FAILURE,
     }
-    ExitCode::FAILURE
 }
