@@ -77,7 +77,8 @@ past_one : {C R : Type 0} {n : ℕ} → ¬ C → (C × (n ≡ 1)) ⊎ ((¬ C) ×
 past_one n (inl c) = absurd (n c.0)
 past_one n (inr h) = h.1
 
-request_numbers : (m l : List ℕ) (q : Request) → ¬ ShortList l → Says (w.request_rows m q) (outcome_says (outcome_of (serve_answer m l q))).1
+request_numbers : (m l : List ℕ) (q : Request) → ¬ ShortList l
+    → Says (w.request_rows m q) (outcome_says (outcome_of (serve_answer m l q))).1
 request_numbers m l (Put key value) n = past_one n (demand_1.put m l key value)
 request_numbers m l (Fetch key) n = rw (outcome_answered (fetch m key)) (demand_1.fetch m key)
 request_numbers m l (Delete key) n = past_one n (demand_1.delete m l key)
@@ -172,7 +173,8 @@ module _ (m l : List ℕ) (ds : List Desk) (last : ℕ) where
   unfolding serve_turn
   serves why = go (not (may_turn (length ds) last)) (tells_less (length l) 372) (held ds k) refl refl
     where
-      refused_of : (a : Result Answer Refusal) → ◌≡◌ {A = Result Turned Refusal} (Ok (Served (outcome_of a))) (Ok (Served (Err why))) → a ≡ Err why
+      refused_of : (a : Result Answer Refusal)
+          → ◌≡◌ {A = Result Turned Refusal} (Ok (Served (outcome_of a))) (Ok (Served (Err why))) → a ≡ Err why
       refused_of (Ok a) e = cc
       refused_of (Err x) e = let same : x ≡ why = cc in ap Err same
 

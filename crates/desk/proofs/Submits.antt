@@ -9,13 +9,13 @@ use Rattle.std.specs.Prelude.{if◌then◌else◌, Some, Result, Ok, Err}
 use Rattle.words.specs.declared.refusal.Refusal.{Refusal}
 use Rattle.words.specs.declared.refusal.Refusal.TheVariants.{NoDesk, FullDesk}
 use Rattle.change.specs.declared.Request.{Request}
-use Rattle.desk.specs.Desk.{Desk, full, held, with_desk, may_submit, accepts}
-use Rattle.desk.specs.Turn.{submit_answer, submit_desks}
+use Rattle.desk.specs.Desk.{Desk, full, held, with_desk, may_submit}
+use Rattle.desk.specs.Turn.{submit_answer}
 use Rattle.desk.specs.Answers.{submit_says}
 use Rattle.desk.specs.Lent.{laid}
 use Rattle.desk.specs.Promises.{SubmitPromise}
 use Rattle.desk.proofs.Bounds.{may_submit_true}
-use Rattle.desk.proofs.LentDesks.{length_reads, held_reads, with_reads}
+use Rattle.desk.proofs.LentDesks.{length_reads, held_reads, laid_reads}
 
 -- the place of a member's desk
 abbrev pub place : ℕ → ℕ → Result ℕ Refusal
@@ -44,21 +44,11 @@ module _ {A : Type 0} {says : A → Desk} {reads : List A → List Desk} (each :
   abbrev after : List A
   after = laid reads made ds j q
 
-  -- read as desks, it is the submit of these
-  read : reads after ≡ submit_desks (reads ds) j q
-  unfolding submit_desks
-  read = go (accepts (reads ds) j)
-    where
-      go : (b : Bool) → reads (if b then with_desk ds j (made (Some q)) else ds)
-          ≡ (if b then with_desk (reads ds) j (Some q) else reads ds)
-      go true = with_reads each ds j (made (Some q)) ∙ ap (with_desk (reads ds) j) (back (Some q))
-      go false = refl
-
   abbrev Does : Result Unit Refusal → List A → Type 0
   Does r ds' = SubmitPromise (reads ds) j q r (reads ds') × (ds' ≡ after)
 
   does : (r : Result Unit Refusal) (ds' : List A) → r ≡ submit_answer (reads ds) j → ds' ≡ after → Does r ds'
-  does r ds' e f = ((ap submit_says e, ap reads f ∙ read), f)
+  does r ds' e f = ((ap submit_says e, ap reads f ∙ laid_reads each made back ds j q), f)
 
   pub nobody : (why : Refusal) → place (length ds) j ≡ Err why → Does (Err why) ds
   unfolding submit_answer

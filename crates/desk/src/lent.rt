@@ -1,7 +1,8 @@
 // Desks, and the forms in which callers lend them.
 ghost use Rattle.std.specs.Prelude.{◌≡◌, List, map, refl};
 ghost use Rattle.desk.specs.Desk as d;
-ghost use Rattle.desk.specs.Lent.{map_itself};
+ghost use Rattle.std.proofs.Common.{sym};
+ghost use Rattle.std.proofs.lemmas.List.{map-id};
 
 use change::Request;
 
@@ -45,7 +46,7 @@ impl Lent for Option<Request> {
         desk
     }
 
-    ghost reads_each = { map_itself };
+    ghost reads_each = { λ ds. sym (map-id ds) };
 
     ghost says_made = { λ d. refl };
 }

@@ -3,15 +3,17 @@ use Prim.Native.Nat.{ℕ}
 use mathlib.Core.Path.{◌≡◌, refl, sym, ◌∙◌, ap}
 use mathlib.Core.List.{List}
 use lib.ListN.{length}
+use Rattle.std.specs.Prelude.{Result, Ok, Err}
+use Rattle.words.specs.declared.refusal.Refusal.{Refusal}
 use Rattle.words.specs.Carry.{CarryAllPromise, after_all}
 use Rattle.change.specs.declared.Outcome.TheVariants as o
-use Rattle.desk.specs.declared.record.Desk.{Desk}
 use Rattle.desk.specs.declared.answer.Turned.{Turned}
-use Rattle.desk.specs.declared.answer.Turned.TheVariants.{Served, Idle, Refused}
-use Rattle.desk.specs.Desk.{held, choose}
+use Rattle.desk.specs.declared.answer.Turned.TheVariants.{Served, Idle}
+use Rattle.desk.specs.Desk.{Desk, held, choose}
 use Rattle.desk.specs.Turn.{turn}
 use Rattle.desk.proofs.Refused.{refuses}
 use Rattle.desk.proofs.Served.{carried_out}
+use Rattle.turns.specs.declared.record.DeskRecord.{DeskRecord}
 use Rattle.turns.specs.declared.replies.TurnReply.{TurnReply}
 use Rattle.turns.specs.Replies.{turned_reply, turn_reply}
 use Rattle.turns.specs.Desks.{desks_of}
@@ -24,17 +26,17 @@ counted m l ds last = go (turn m l ds last).answer.turned refl
     n : ℕ
     n = (turn m l ds last).answer.events
 
-    go : (x : Turned) → (turn m l ds last).answer.turned ≡ x → (turned_reply x n).events ≡ n
-    go (Served o.New) e = refl
-    go (Served o.Replaced) e = refl
-    go (Served o.Removed) e = refl
-    go (Served o.Absent) e = refl
-    go (Served (o.Found v)) e = refl
-    go (Served (o.Refused why)) e = sym (refuses.request_refused m l ds last why e).events_are
-    go Idle e = refl
-    go (Refused why) e = sym (refuses.turn_refused m l ds last why e).events_are
+    go : (x : Result Turned Refusal) → (turn m l ds last).answer.turned ≡ x → (turned_reply x n).events ≡ n
+    go (Ok (Served (Ok o.New))) e = refl
+    go (Ok (Served (Ok o.Replaced))) e = refl
+    go (Ok (Served (Ok o.Removed))) e = refl
+    go (Ok (Served (Ok o.Absent))) e = refl
+    go (Ok (Served (Ok (o.Found v)))) e = refl
+    go (Ok (Served (Err why))) e = sym (refuses.request_refused m l ds last why e).events_are
+    go (Ok Idle) e = refl
+    go (Err why) e = sym (refuses.turn_refused m l ds last why e).events_are
 
-module _ (m l : List ℕ) (rs : List (List ℕ)) (last : ℕ) (r : TurnReply) (m' l' : List ℕ) (rs' : List (List ℕ)) where
+module _ (m l : List ℕ) (rs : List DeskRecord) (last : ℕ) (r : TurnReply) (m' l' : List ℕ) (rs' : List DeskRecord) where
   abbrev ds : List Desk
   ds = desks_of rs
 

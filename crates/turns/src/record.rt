@@ -1,17 +1,20 @@
 // A desk as it is lent: a kind, a key and a value.
-ghost use Rattle.std.specs.Prelude.{◌≡◌};
+ghost use Rattle.std.specs.Prelude.{refl};
 ghost use Rattle.turns.specs.Desks as d;
 
 use change::Request;
-use desk::Desk;
+use desk::{Desk, Lent};
 
-pub type DeskRecord = [u64; 3];
+#[repr(C)]
+#[derive(Clone, Copy)]
+pub struct DeskRecord {
+    pub kind: u64,
+    pub key: u64,
+    pub value: u64,
+}
 
 // The kinds of record. A record of any other kind is an empty desk.
-#[derive(Drop)]
-pub struct Holds {}
-
-impl Holds {
+impl DeskRecord {
     pub const NOTHING: u64 = 0;
 
     pub const PUT: u64 = 1;
@@ -21,26 +24,33 @@ impl Holds {
     pub const DELETE: u64 = 3;
 }
 
-// The constants are the numbers of the definitions.
-fn named_once()
-    ensures nothing { Holds.NOTHING ≡ d.nothing }
-    ensures put { Holds.PUT ≡ d.put }
-    ensures fetch { Holds.FETCH ≡ d.fetch }
-    ensures delete { Holds.DELETE ≡ d.delete }
-{}
+impl Lent for DeskRecord {
+    ghost says = { d.desk_of };
 
-pub fn desk_of(lent: DeskRecord) -> Desk
-    ensures { result ≡ d.desk_of lent }
-{
-    let kind = lent[0];
-    if kind == Holds::PUT {
-        return Desk::Holding(Request::Put(lent[1], lent[2]));
+    ghost reads = { d.desks_of };
+
+    ghost made = { d.record_of };
+
+    fn desk(self) -> Desk {
+        match self.kind {
+            DeskRecord::PUT => Some(Request::Put(self.key, self.value)),
+            DeskRecord::FETCH => Some(Request::Fetch(self.key)),
+            DeskRecord::DELETE => Some(Request::Delete(self.key)),
+            _ => None,
+        }
     }
-    if kind == Holds::FETCH {
-        return Desk::Holding(Request::Fetch(lent[1]));
+
+    fn lend(desk: Desk) -> DeskRecord {
+        let (kind, key, value) = match desk {
+            None => (DeskRecord::NOTHING, 0, 0),
+            Some(Request::Put(key, value)) => (DeskRecord::PUT, key, value),
+            Some(Request::Fetch(key)) => (DeskRecord::FETCH, key, 0),
+            Some(Request::Delete(key)) => (DeskRecord::DELETE, key, 0),
+        };
+        DeskRecord { kind, key, value }
     }
-    if kind == Holds::DELETE {
-        return Desk::Holding(Request::Delete(lent[1]));
-    }
-    Desk::Empty
+
+    ghost reads_each = { λ rs. refl };
+
+    ghost says_made = { d.read_back };
 }

@@ -1,10 +1,11 @@
-// What submit and turn answer, as replies.
+// What submit and turn answer, as replies. A reply is a type of `exports`, so what turns an answer of submit into one is a function.
 ghost use Rattle.std.specs.Prelude.{◌≡◌};
 ghost use Rattle.turns.specs.Replies as d;
 
-use desk::{Submitted, Turn, Turned};
-use exports::replies::{outcome_reply, plain, refused};
+use desk::{Turn, Turned};
+use exports::replies::outcome_reply;
 use exports::reply::{Kind, Reply};
+use words::Refusal;
 
 // Of a turn: the member served, the events carried out, the last served to hand to the next turn, and the value as in a reply.
 #[repr(C)]
@@ -17,35 +18,36 @@ pub struct TurnReply {
     pub value: u64,
 }
 
-pub fn submitted_reply(submitted: Submitted) -> Reply
+pub fn submitted_reply(submitted: Result<(), Refusal>) -> Reply
     ensures { result ≡ d.submitted_reply submitted }
 {
     match submitted {
-        Submitted::Accepted => plain(Kind::ACCEPTED, 0, 0),
-        Submitted::Refused(why) => refused(why),
+        Ok(()) => Reply::new(Kind::ACCEPTED, 0, 0),
+        Err(why) => Reply::from(why),
     }
 }
 
-fn turned_reply(turned: Turned, events: u64) -> Reply
+fn turned_reply(turned: Result<Turned, Refusal>, events: u64) -> Reply
     ensures { result ≡ d.turned_reply turned events }
 {
     match turned {
-        Turned::Served(outcome) => outcome_reply(outcome, events),
-        Turned::Idle => plain(Kind::IDLE, events, 0),
-        Turned::Refused(why) => refused(why),
+        Ok(Turned::Served(outcome)) => outcome_reply(outcome, events),
+        Ok(Turned::Idle) => Reply::new(Kind::IDLE, events, 0),
+        Err(why) => Reply::from(why),
     }
 }
 
-pub fn turn_reply(turn: Turn) -> TurnReply
-    ensures { result ≡ d.turn_reply turn }
-{
-    let turned = turn.turned;
-    let reply = turned_reply(turned, turn.events);
-    TurnReply {
-        kind: reply.kind,
-        member: turn.member,
-        events: reply.events,
-        last: turn.last,
-        value: reply.value,
+impl From<Turn> for TurnReply {
+    ghost from_gives = { λ turn r. r ≡ d.turn_reply turn };
+
+    fn from(turn: Turn) -> TurnReply {
+        let reply = turned_reply(turn.turned, turn.events);
+        TurnReply {
+            kind: reply.kind,
+            member: turn.member,
+            events: reply.events,
+            last: turn.last,
+            value: reply.value,
+        }
     }
 }

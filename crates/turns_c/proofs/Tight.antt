@@ -4,6 +4,7 @@ use mathlib.Core.Path.{sym, ◌∙◌}
 use mathlib.Core.List.{List}
 use Rattle.words.proofs.Answers.{both_given, both_same}
 use Rattle.words.proofs.Tight.{Tight}
+use Rattle.turns.specs.declared.record.DeskRecord.{DeskRecord}
 use Rattle.turns_c.proofs.ombykape_submit_put.Kinds as submit_put
 use Rattle.turns_c.proofs.ombykape_submit_put.Reads as submit_put_reads
 use Rattle.turns_c.proofs.ombykape_submit_fetch.Kinds as submit_fetch
@@ -26,7 +27,7 @@ pub submit_delete_tight : Tight 1 submit_delete.ps submit_delete.r submit_delete
 submit_delete_tight = record { free = λ κs a. tt; one = λ κs a r s x y. both_given }
 
 -- pool, list and desks
-pub turn_tight : Tight 3 turn.ps turn.r {B = (List ℕ × List ℕ) × List (List ℕ)} turn_reads.Asked turn_reads.Learnt
+pub turn_tight : Tight 3 turn.ps turn.r {B = (List ℕ × List ℕ) × List DeskRecord} turn_reads.Asked turn_reads.Learnt
     (λ κs x. ((x.0.now, x.1.0.now), x.1.1.0.now))
 turn_tight = record {
   free = λ κs a. tt;
@@ -34,7 +35,7 @@ turn_tight = record {
 }
 
 -- the pool is lent only to read
-pub plan_turn_tight : Tight 3 plan_turn.ps plan_turn.r {B = List ℕ × List (List ℕ)} plan_turn_reads.Asked plan_turn_reads.Learnt
+pub plan_turn_tight : Tight 3 plan_turn.ps plan_turn.r {B = List ℕ × List DeskRecord} plan_turn_reads.Asked plan_turn_reads.Learnt
     (λ κs x. (x.1.0.now, x.1.1.0.now))
 plan_turn_tight = record {
   free = λ κs a. tt;
