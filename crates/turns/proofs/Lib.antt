@@ -1,4 +1,3 @@
 pub mod Records
 pub mod TwoSteps
-pub mod Tight
 pub mod Slips

@@ -1,13 +1,8 @@
-// The calls on lent desks as `turns_c` hands them on to Rust and C: a desk and an answer are records of words.
+// Desks as Rust and C lend them, and what the calls on these answer: records of words. The archive `turns_c` has the calls.
 #![tactic(auto)]
 
-mod desks;
 mod record;
 mod replies;
 
-pub use desks::{
-    ombykape_plan_turn, ombykape_submit_delete, ombykape_submit_fetch, ombykape_submit_put,
-    ombykape_turn,
-};
 pub use record::DeskRecord;
-pub use replies::TurnReply;
+pub use replies::{TurnReply, submitted_reply};

@@ -1,2 +1,2 @@
--- That the contract of each export leaves no choice.
+-- Each exported call allows one outcome.
 pub mod Tight

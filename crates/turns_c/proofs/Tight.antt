@@ -1,4 +1,4 @@
--- The contracts of the exports themselves leave no choice, as those of the calls that they hand on to (`turns/proofs/Tight.antt`).
+-- "The team proves that two outcomes allowed by the promise coincide": of each contract itself.
 use Prim.Native.Nat.{ℕ}
 use mathlib.Core.Path.{sym, ◌∙◌}
 use mathlib.Core.List.{List}

@@ -1,13 +1,13 @@
-// The archive of the calls on lent desks, for programs in Rust and C. Each export is the call of that name of `turns`, with its promise:
-// a slice is a pointer and a length, an answer is a struct of words. It is an archive of its own: compiled apart from the calls on a
-// pool, neither has to share its copy of these with the other.
+// The archive of the calls on lent desks, for programs in Rust and C: a slice is a pointer and a length, an answer is a struct of words.
+// It is an archive of its own: compiled apart from the calls on a pool, neither has to share its copy of these with the other.
 #![tactic(auto)]
 
 ghost use Rattle.change.specs.declared.Request.TheVariants.{Put, Fetch, Delete};
 ghost use Rattle.turns.specs.Promises.{SubmitPromise, PlanTurnPromise, TurnPromise};
 
+use change::Request;
 use exports::reply::Reply;
-use turns::{DeskRecord, TurnReply};
+use turns::{DeskRecord, TurnReply, submitted_reply};
 
 #[unsafe(no_mangle)]
 pub extern "C" fn ombykape_submit_put(
@@ -18,23 +18,24 @@ pub extern "C" fn ombykape_submit_put(
 ) -> Reply
     ensures { SubmitPromise desks.old member (Put key value) result desks.new }
 {
-    turns::ombykape_submit_put(desks, member, key, value)
+    submitted_reply(desk::submit(desks, member, Request::Put(key, value)))
 }
 
 #[unsafe(no_mangle)]
 pub extern "C" fn ombykape_submit_fetch(desks: &mut [DeskRecord], member: u64, key: u64) -> Reply
     ensures { SubmitPromise desks.old member (Fetch key) result desks.new }
 {
-    turns::ombykape_submit_fetch(desks, member, key)
+    submitted_reply(desk::submit(desks, member, Request::Fetch(key)))
 }
 
 #[unsafe(no_mangle)]
 pub extern "C" fn ombykape_submit_delete(desks: &mut [DeskRecord], member: u64, key: u64) -> Reply
     ensures { SubmitPromise desks.old member (Delete key) result desks.new }
 {
-    turns::ombykape_submit_delete(desks, member, key)
+    submitted_reply(desk::submit(desks, member, Request::Delete(key)))
 }
 
+// A turn whose events are left to be carried out.
 #[unsafe(no_mangle)]
 pub extern "C" fn ombykape_plan_turn(
     pool: &[u64],
@@ -45,7 +46,7 @@ pub extern "C" fn ombykape_plan_turn(
     ensures { PlanTurnPromise pool.now list.old desks.old last result list.new
         desks.new }
 {
-    turns::ombykape_plan_turn(pool, list, desks, last)
+    TurnReply::from(desk::plan_turn(pool, list, desks, last))
 }
 
 #[unsafe(no_mangle)]
@@ -58,5 +59,5 @@ pub extern "C" fn ombykape_turn(
     ensures { TurnPromise pool.old list.old desks.old last result
         pool.new list.new desks.new }
 {
-    turns::ombykape_turn(pool, list, desks, last)
+    TurnReply::from(desk::turn(pool, list, desks, last))
 }
