@@ -5,7 +5,7 @@ use mathlib.Core.List.{List, []}
 use mathlib.Core.Bool.{Bool, true, false, not}
 use lib.Dec.{eqb}
 use lib.ListN.{get_or}
-use Rattle.std.specs.Prelude.{if◌then◌else◌, Result, Ok, Err}
+use Rattle.std.specs.Prelude.{if◌then◌else◌, Result, Ok}
 use Rattle.words.specs.Event.{at}
 use Rattle.words.specs.declared.refusal.Refusal.{Refusal}
 use Rattle.words.specs.declared.refusal.Refusal.TheVariants.{NoPool, Unfinished}
@@ -23,15 +23,12 @@ use Rattle.change.specs.Gate.{Planned, refused, at_leaf}
 use Rattle.change.specs.Fetch.{fetch_at, fetch}
 use Rattle.change.proofs.Answers.{outcome_told}
 use Rattle.pool.specs.Promises.{FetchPromise}
-use Rattle.pool.specs.inner.Passing.{Admitted, Gated}
+use Rattle.pool.specs.inner.Passing.{Admitted}
 use Rattle.pool.proofs.Gates.{found_leaf, gate_at}
 
 module _ (m : List ℕ) (key : ℕ) where
   says : (r : Result Outcome Refusal) → fetch m key ≡ record { answer = r; events = [] } → FetchPromise m key r
   says r e = sym (ap (λ (p : Planned Outcome). outcome_says p.answer) e)
-
-  pub fetch_shut : {why : Refusal} → Gated m key (Err why) → FetchPromise m key (Err why)
-  fetch_shut {why} p = says (Err why) (p (fetch_at m key))
 
   module _ {s : Seat} (p : Admitted m key s) where
     pub fetch_absent : s.there ≡ false → FetchPromise m key (Ok Absent)

@@ -8,10 +8,10 @@ use borrow.Author.Tests.{ltb-false, eq-eqb, eqb-true, not-false}
 use Rattle.std.specs.Prelude.{if◌then◌else◌, Result, Ok, Err}
 use Rattle.words.specs.Pool.{list_words}
 use Rattle.words.specs.declared.refusal.Refusal.{Refusal}
-use Rattle.words.specs.declared.refusal.Refusal.TheVariants.{ShortList, NoPool, Unfinished, Damaged}
+use Rattle.words.specs.declared.refusal.Refusal.TheVariants.{ShortList, NoPool, Unfinished}
 use Rattle.tree.specs.Header.{commit_of, form_agrees}
-use Rattle.tree.specs.Path.{failed, way_to}
-use Rattle.tree.specs.inner.Descended.{above_of, Seated}
+use Rattle.tree.specs.Path.{way_to}
+use Rattle.tree.specs.inner.Descended.{above_of}
 use Rattle.tree.specs.declared.descend.Seat.{Seat}
 use Rattle.tree.proofs.Leaves.{AtLeaf, at_leaf as leaf_found}
 use Rattle.change.specs.declared.Outcome.{Outcome}
@@ -80,19 +80,8 @@ module _ {A : Type 0} (refuse : Refusal → A) (body : A) where
   pub form_open : (m : List ℕ) {u : Unit {0}} → Ok u ≡ form_test m → past_form refuse m body ≡ body
   form_open m e = form_is m ∙ ap after (sym e)
 
-  pub gate_shut : (m : List ℕ) {why : Refusal} → Err why ≡ gate_test m → past_gate refuse m body ≡ refuse why
-  gate_shut m e = gate_is m ∙ ap after (sym e)
-
   pub gate_open : (m : List ℕ) {u : Unit {0}} → Ok u ≡ gate_test m → past_gate refuse m body ≡ body
   gate_open m e = gate_is m ∙ ap after (sym e)
-
--- the way down found no leaf: 4, whatever is done at one; or it found the leaf
-module _ (m : List ℕ) (key : ℕ) {u : Unit {0}} (t : Ok u ≡ gate_test m) where
-  pub gate_damaged : {node : ℕ} → way_to m key ≡ failed node → Gated m key (Err Damaged)
-  gate_damaged none body = gate_open refused (at_leaf body (way_to m key)) m t ∙ ap (at_leaf body) none
-
-  pub gate_passed : {s : Seat} → Seated m key s → Gated m key (Ok s)
-  gate_passed w = let h = whole_pool m t in record { form_is = h.0; finished = h.1; seated = w }
 
 module _ {m : List ℕ} {key : ℕ} {s : Seat} (p : Admitted m key s) where
   pub found_leaf : AtLeaf m key s

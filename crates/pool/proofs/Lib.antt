@@ -8,7 +8,6 @@ pub mod Deletes
 pub mod Recovers
 pub mod Puts
 pub mod Fulls
-pub mod Table
 pub mod Tight
 pub mod Demand1
 pub mod Demand2

@@ -9,7 +9,6 @@ use Rattle.words.specs.declared.event.Event.{Event}
 use Rattle.words.specs.Written.{written, Wrote}
 use Rattle.words.specs.declared.refusal.Refusal.{Refusal}
 use Rattle.change.specs.declared.Outcome.{Outcome}
-use Rattle.change.specs.declared.Answer.{Answer}
 use Rattle.change.specs.Gate.{Planned, list_after, with_count, answered}
 
 -- what is answered says what the promise says of it
@@ -38,8 +37,3 @@ pub planned_answer : (p : Planned Outcome) (o : Outcome) (es : List Event) {l l'
     → (Ok (record { outcome = o; events = r }) ≡ answered p) × (l' ≡ list_after p l)
 planned_answer p o es e w =
     rw e (ap (λ (n : ℕ). Ok (record { outcome = o; events = n })) (w.next ∙ zero-add (length es)), w.list)
-
--- what another call answered and wrote for the same plan
-pub passed_on : (p q : Planned Outcome) {a : Result Answer Refusal} (l : List ℕ) {l' : List ℕ} → p ≡ q
-    → (a ≡ answered q) × (l' ≡ list_after q l) → (a ≡ answered p) × (l' ≡ list_after p l)
-passed_on p q l e h = rw e h

@@ -1,8 +1,8 @@
 -- `pool::put` meets its contract: each return goes by the tests before it.
 use Rattle.std.proofs.lemmas.Result.{err_from_is_err_and}
 use Rattle.change.specs.Answers.{answer_says}
-use Rattle.pool.proofs.Planning.{said, quiet_answer, passed_on}
-use Rattle.pool.proofs.Gates.{long_list, call_short, call_shut, call_at}
+use Rattle.pool.proofs.Planning.{said, quiet_answer}
+use Rattle.pool.proofs.Gates.{call_short, call_shut}
 use Rattle.pool.proofs.putting.put.Goals as goal
 
 pub returns-in_err-pass_list : goal.returns-in_err-pass_list
@@ -15,13 +15,3 @@ returns-in_err-seat c =
     let p = err_from_is_err_and c.from_residual-in_err-seat.result c.from_residual-in_err-seat.ensures.1 in
     rw (p.1, p.2)
     (said answer_says (quiet_answer _ _ _ (call_shut _ _ _ _ c.in_ok-pass_list.ensures c.in_err-seat.ensures)))
-
-pub put_at-requires : goal.put_at-requires
-put_at-requires c = (c.in_ok-seat.ensures, long_list _ c.in_ok-pass_list.ensures)
-
-pub returns : goal.returns
-returns c =
-    said answer_says (passed_on _ _ _ (call_at _ _ _ _ c.in_ok-pass_list.ensures c.in_ok-seat.ensures) (
-      c.put_at.ensures.answer,
-      c.put_at.ensures.list,
-    ))

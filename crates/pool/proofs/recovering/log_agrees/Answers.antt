@@ -1,15 +1,11 @@
 -- `pool::log_agrees` meets its contract: a pair a turn.
-use mathlib.Core.Path.{◌∙◌, sym, refl}
-use native.Mathlib.Nat.{sub-zero}
+use mathlib.Core.Path.{◌∙◌, sym}
 use native.Mathlib.Omega.{arith}
 use Rattle.pool.proofs.Recovers.{test_on, test_stops, test_ends, many_pairs, few_pairs}
 use Rattle.pool.proofs.recovering.log_agrees.Goals as goal
 
 pub returns-then-pairs-gt-PAIRS_MOST : goal.returns-then-pairs-gt-PAIRS_MOST
 returns-then-pairs-gt-PAIRS_MOST c = many_pairs _ c.if-pairs-gt-PAIRS_MOST.true
-
-pub loop-i-init : goal.loop-i-init
-loop-i-init c = rw sub-zero refl
 
 pub returns-then-not-may_store : goal.returns-then-not-may_store
 returns-then-not-may_store c =
