@@ -8,10 +8,17 @@ ghost use Rattle.node.specs.inner.Looked.{Inside};
 
 use words::Pool;
 
-#[derive(Drop)]
-pub struct Node {}
+// A node of a pool, with its slot word.
+#[derive(Clone, Copy)]
+pub struct Node<'a> {
+    pub pool: &'a [u64],
+    pub number: u64,
+    pub slot: u64,
+    pub ghost inside: { Inside pool.now number },
+    pub ghost slot_is: { slot ≡ at pool.now (v.slot_at number) },
+}
 
-impl Node {
+impl<'a> Node<'a> {
     pub const ENTRIES: u64 = 7;
 
     // Word 1 of node k.
@@ -37,40 +44,67 @@ impl Node {
     {
         Pool::node_at(k) + (3 + 2 * i)
     }
+
+    // Node k of a pool.
+    pub fn at(pool: &'a [u64], k: u64) -> Node<'a>
+        requires { Inside pool.now k }
+        ensures pool { result.pool.now ≡ pool.now }
+        ensures number { result.number ≡ k }
+    {
+        let slot = pool[Pool::node_at(k) as usize];
+        Node {
+            pool,
+            number: k,
+            slot,
+        }
+    }
+
+    // Its word 1.
+    pub fn link(&self) -> u64
+        ensures { result ≡ at self.now.pool.now (v.link_at self.now.number) }
+    {
+        link(self.pool, self.number)
+    }
+
+    // The key of entry e.
+    pub fn key(&self, e: u64) -> u64
+        requires { e < s.entries }
+        ensures { result ≡ at self.now.pool.now (v.key_at self.now.number e) }
+    {
+        record_key(self.pool, self.number, e)
+    }
+
+    // The value or the child of entry e.
+    pub fn value(&self, e: u64) -> u64
+        requires { e < s.entries }
+        ensures { result ≡ at self.now.pool.now (v.value_at self.now.number e) }
+    {
+        record_value(self.pool, self.number, e)
+    }
 }
 
 fn named_once()
     ensures entries { Node.ENTRIES ≡ s.entries }
 {}
 
-pub fn slot_word(pool: &[u64], k: u64) -> u64
-    requires { Inside pool.now k }
-    ensures { result ≡ at pool.now (v.slot_at k) }
-{
-    let word = Pool::node_at(k) as usize;
-    pool[word]
-}
-
+// The same reads by a node's number, for callers that do not need its slot word.
 pub fn link(pool: &[u64], k: u64) -> u64
     requires { Inside pool.now k }
     ensures { result ≡ at pool.now (v.link_at k) }
 {
-    let word = Node::link_at(k) as usize;
-    pool[word]
+    pool[Node::link_at(k) as usize]
 }
 
 pub fn record_key(pool: &[u64], k: u64, e: u64) -> u64
     requires { Inside pool.now k × (e < s.entries) }
     ensures { result ≡ at pool.now (v.key_at k e) }
 {
-    let word = Node::key_at(k, e) as usize;
-    pool[word]
+    pool[Node::key_at(k, e) as usize]
 }
 
 pub fn record_value(pool: &[u64], k: u64, e: u64) -> u64
     requires { Inside pool.now k × (e < s.entries) }
     ensures { result ≡ at pool.now (v.value_at k e) }
 {
-    let word = Node::value_at(k, e) as usize;
-    pool[word]
+    pool[Node::value_at(k, e) as usize]
 }

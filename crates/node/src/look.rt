@@ -1,13 +1,13 @@
 // A node looked at whole, in one pass over the entries that it names: whether it is good, and where a key stands in it.
 ghost use Rattle.std.specs.Prelude.{◌≡◌, true, ltb, leb, eqb, if◌then◌else◌};
-ghost use Rattle.words.specs.Event.{at};
 ghost use Rattle.node.specs.Lists.{upto};
 ghost use Rattle.node.specs.View as v;
+ghost use Rattle.node.specs.inner.Said.{said};
 ghost use Rattle.node.specs.inner.Looked as l;
-ghost use Rattle.node.specs.inner.Looked.{Inside, Looked, Placed, end_of};
+ghost use Rattle.node.specs.inner.Looked.{Looked, Placed, end_of};
 
 use crate::cover::{Cover, Look, Place};
-use crate::layout::{Node, record_key};
+use crate::layout::Node;
 use crate::slot::{count, name};
 
 // Key x may come after j others: the first is not below `low`, and each later one above it.
@@ -27,67 +27,67 @@ fn ends(cover: Cover, j: u64, last: u64) -> bool
     }
 }
 
-// Node k, whose slot word is w, looked at for a key: nothing of one that is not good, which is left at the first fault. Names whose keys
-// rise are all different.
-pub fn look(pool: &[u64], k: u64, w: u64, least: u64, from: u64, key: u64) -> Option<Look>
-    requires { Inside pool.now k × (w ≡ at pool.now (v.slot_at k)) }
-    ensures { Looked least from key (v.view pool.now k) result }
-{
-    let n = count(w);
-    if n == 0 {
-        return (least == 0).then_some(Look {
-            after: 0,
-            last: from,
-        });
-    }
-    if n < least || Node::ENTRIES < n {
-        return None;
-    }
-    let mut rest = w >> 8;
-    let mut last = from;
-    let mut after: u64 = 0;
-    for j in 0..n {
-        let e = rest & 0xff;
-        if Node::ENTRIES <= e {
+impl Node<'_> {
+    // The node looked at for a key: nothing of one that is not good, which is left at the first fault. Names whose keys rise are all
+    // different.
+    pub fn look(&self, least: u64, from: u64, key: u64) -> Option<Look>
+        ensures { Looked least from key (said self.now) result }
+    {
+        let n = count(self.slot);
+        if n == 0 {
+            return (least == 0).then_some(Look {
+                after: 0,
+                last: from,
+            });
+        }
+        if n < least || Node::ENTRIES < n {
             return None;
         }
-        let x = record_key(pool, k, e);
-        if !follows(j, last, x) {
-            return None;
+        let mut rest = self.slot >> 8;
+        let mut last = from;
+        let mut after: u64 = 0;
+        for j in 0..n {
+            let e = rest & 0xff;
+            if Node::ENTRIES <= e {
+                return None;
+            }
+            let x = self.key(e);
+            if !follows(j, last, x) {
+                return None;
+            }
+            after += (x <= key) as u64;
+            last = x;
+            rest >>= 8;
         }
-        after += (x <= key) as u64;
-        last = x;
-        rest >>= 8;
+        Some(Look { after, last })
     }
-    Some(Look { after, last })
-}
 
-// Whether node k, whose slot word is w, is good. The key that it is looked at for plays no part.
-pub fn fits(pool: &[u64], k: u64, w: u64, least: u64, cover: Cover) -> bool
-    requires { Inside pool.now k × (w ≡ at pool.now (v.slot_at k)) }
-    ensures { result ≡ v.good least cover.lo (end_of cover) (v.view pool.now k) }
-{
-    match look(pool, k, w, least, cover.lo, 0) {
-        None => false,
-        Some(seen) => ends(cover, count(w), seen.last),
+    // Whether the node is good. The key that it is looked at for plays no part.
+    pub fn fits(&self, least: u64, cover: Cover) -> bool
+        ensures { result ≡ v.good least cover.lo (end_of cover) (said self.now) }
+    {
+        match self.look(least, cover.lo, 0) {
+            None => false,
+            Some(seen) => ends(cover, count(self.slot), seen.last),
+        }
     }
-}
 
-// Where a key stands in sound node k, whose slot word is w and of whose keys so many are not above it: at the last of them, or after it.
-pub fn place(pool: &[u64], k: u64, w: u64, after: u64, key: u64) -> Place
-    requires inside { Inside pool.now k × (w ≡ at pool.now (v.slot_at k)) × (v.sound 0 (v.view pool.now k) ≡ true) }
-    requires after_value { after ≡ upto key (v.keys (v.view pool.now k).records) }
-    ensures { Placed key (v.view pool.now k) result }
-{
-    if after == 0 {
-        return Place {
-            rank: 0,
-            there: false,
-        };
-    }
-    let there = record_key(pool, k, name(w, after - 1)) == key;
-    Place {
-        rank: after - (there as u64),
-        there,
+    // Where a key stands in the node, which is sound and of whose keys so many are not above it: at the last of them, or after it.
+    pub fn place(&self, after: u64, key: u64) -> Place
+        requires sound { v.sound 0 (said self.now) ≡ true }
+        requires after_value { after ≡ upto key (v.keys (said self.now).records) }
+        ensures { Placed key (said self.now) result }
+    {
+        if after == 0 {
+            return Place {
+                rank: 0,
+                there: false,
+            };
+        }
+        let there = self.key(name(self.slot, after - 1)) == key;
+        Place {
+            rank: after - (there as u64),
+            there,
+        }
     }
 }

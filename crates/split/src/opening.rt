@@ -5,9 +5,9 @@ ghost use Rattle.node.specs.Slot as s;
 ghost use Rattle.node.specs.View.{view, rank, slot_at};
 ghost use Rattle.split.specs.inner.Splitting.{Met, Named, Opened, eight_of};
 
+use node::Node;
 use node::bytes::byte_at;
 use node::layout::{record_key, record_value};
-use node::look::{look, place};
 use node::slot::{eight_names, spot_of};
 
 // A full node, and a new record with its rank. The names are those of the eight: the new record has that of the spot which it takes if
@@ -39,8 +39,13 @@ pub fn rank_of(pool: &[u64], k: u64, w: u64, key: u64) -> u64
     requires { Met pool.now k × (w ≡ at pool.now (slot_at k)) }
     ensures { result ≡ rank (view pool.now k) key }
 {
-    let seen = look(pool, k, w, 0, 0, key).unwrap();
-    place(pool, k, w, seen.after, key).rank
+    let node = Node {
+        pool,
+        number: k,
+        slot: w,
+    };
+    let seen = node.look(0, 0, key).unwrap();
+    node.place(seen.after, key).rank
 }
 
 // Full node k, whose slot word is w, with a new record at its rank.

@@ -11,13 +11,15 @@ use Rattle.std.specs.Prelude.{if◌then◌else◌}
 use Rattle.words.specs.Event.{at}
 use Rattle.node.specs.Lists.{upto}
 use Rattle.node.specs.Slot.{count, names, entries}
-use Rattle.node.specs.View.{Record, view, keys, entry, slot_at, link_at, key_at, value_at}
+use Rattle.node.specs.View.{Record, view, sound, keys, entry, slot_at, link_at, key_at, value_at}
 use Rattle.node.proofs.Every.{below_at}
 use Rattle.node.proofs.Slots.{length_names}
 use Rattle.node.specs.inner.Looked.{Inside, LookedGood}
+use Rattle.node.specs.inner.Said.{said}
+use Rattle.node.specs.declared.layout.Node.{Node}
 use Rattle.node.specs.declared.cover.Look.{Look}
 use Rattle.node.proofs.Ranks.{upto_length}
-use Rattle.node.proofs.Views.{Good, view_length, view_names, record_at, keys_many}
+use Rattle.node.proofs.Views.{Good, sound_parts, view_length, view_names, record_at, keys_many}
 use Rattle.tree.specs.Kids.{Kid, kid, kids_from, pick_from, pick}
 use Rattle.tree.specs.inner.Descended.{Named, kid_after}
 
@@ -120,6 +122,17 @@ pick_is key hi d l lo (r ∷ rs) = go (ltb key r.0) (pick_is key hi d r.1 r.0 rs
     go false further = further
 
 -- what looking at a good node tells of its children
+pub sound_named : (n : Node) → sound 0 (said n) ≡ true → Named n.pool.now n.number n.slot
+sound_named n t =
+    let p = sound_parts (said n) t in
+    let ns = view_names n.pool.now n.number in
+    record {
+      inside = n.inside;
+      word = n.slot_is;
+      few = rw (n.slot_is, ← length_names (at n.pool.now (slot_at n.number)), ← ns) p.0;
+      low = rw (n.slot_is, ← ns) p.1;
+    }
+
 pub good_named : {m : List ℕ} {k w least lo hi : ℕ} → Good least lo hi (view m k) → Inside m k → w ≡ at m (slot_at k) → Named m k w
 good_named {m} {k} g i w = record {
   inside = i;

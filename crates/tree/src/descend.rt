@@ -7,8 +7,7 @@ ghost use Rattle.tree.specs.inner.Descended.{Descended};
 
 use crate::child::{child, first_key, last_key};
 use crate::header::counts_agree;
-use node::layout::slot_word;
-use node::look::{look, place};
+use node::Node;
 use words::{Pool, Refusal};
 
 // The leaf of a key, its slot word, the rank of the key in it, and whether the key is there.
@@ -53,35 +52,35 @@ pub fn descend(pool: &[u64], key: u64) -> Result<Seat, Fault>
         return Err(Fault { node: 0 });
     }
     let used = pool[Pool::USED_AT as usize];
-    let mut node = pool[Pool::ROOT_AT as usize];
+    let mut number = pool[Pool::ROOT_AT as usize];
     let mut left = pool[Pool::HEIGHT_AT as usize] - 1;
     let mut parent: u64 = 0;
     let mut from: u64 = 0;
     let mut top = GREATEST;
     loop {
-        if !in_use(used, node) {
+        if !in_use(used, number) {
             return Err(Fault { node: parent });
         }
-        let slot = slot_word(pool, node);
-        let Some(seen) = look(pool, node, slot, (0 < left) as u64, from, key) else {
-            return Err(Fault { node });
+        let node = Node::at(pool, number);
+        let Some(seen) = node.look((0 < left) as u64, from, key) else {
+            return Err(Fault { node: number });
         };
         if top < seen.last {
-            return Err(Fault { node });
+            return Err(Fault { node: number });
         }
         if left == 0 {
-            let at = place(pool, node, slot, seen.after, key);
+            let at = node.place(seen.after, key);
             return Ok(Seat {
-                leaf: node,
-                slot,
+                leaf: number,
+                slot: node.slot,
                 rank: at.rank,
                 there: at.there,
             });
         }
-        parent = node;
-        node = child(pool, parent, slot, seen.after);
-        from = first_key(pool, parent, slot, seen.after, from);
-        top = last_key(pool, parent, slot, seen.after, top);
+        parent = number;
+        number = child(&node, seen.after);
+        from = first_key(&node, seen.after, from);
+        top = last_key(&node, seen.after, top);
         left -= 1;
     }
 }

@@ -4,8 +4,7 @@ ghost use Rattle.tree.specs.Header.{form_agrees};
 ghost use Rattle.tree.specs.inner.Descended.{Reaches, Pathed};
 
 use crate::child::child;
-use node::layout::slot_word;
-use node::look::look;
+use node::Node;
 use words::Pool;
 
 // The leaf of a key, then the nodes above it, nearest first. Each node on the path is good.
@@ -14,13 +13,13 @@ pub fn path_to(pool: &[u64], key: u64) -> [u64; 8]
     ensures { Pathed pool.now key result }
 {
     let mut path = [0u64; 8];
-    let mut node = pool[Pool::ROOT_AT as usize];
+    let mut number = pool[Pool::ROOT_AT as usize];
     for left in (1..pool[Pool::HEIGHT_AT as usize]).rev() {
-        path[left as usize] = node;
-        let slot = slot_word(pool, node);
-        let seen = look(pool, node, slot, 0, 0, key).unwrap();
-        node = child(pool, node, slot, seen.after);
+        path[left as usize] = number;
+        let node = Node::at(pool, number);
+        let seen = node.look(0, 0, key).unwrap();
+        number = child(&node, seen.after);
     }
-    path[0] = node;
+    path[0] = number;
     path
 }

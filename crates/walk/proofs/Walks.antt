@@ -16,13 +16,11 @@ use Rattle.words.proofs.Tests.{both, within_says}
 use Rattle.node.specs.Slot.{byte, count}
 use Rattle.node.specs.View.{View, view, slot_at, link_at}
 use Rattle.node.specs.inner.Looked.{Inside, end_of}
-use Rattle.node.proofs.Views.{Good, good_parts, view_length}
+use Rattle.node.proofs.Views.{view_length}
 use Rattle.tree.specs.Header.{capacity_of, used_of}
 use Rattle.tree.specs.Kids as k
 use Rattle.tree.specs.Check as t
 use Rattle.tree.specs.Lists.{occ}
-use Rattle.tree.specs.inner.Descended.{Named}
-use Rattle.tree.proofs.Kids.{good_named}
 use Rattle.walk.specs.declared.walking.Kid.{Kid}
 use Rattle.walk.specs.declared.walking.Seen.{Seen}
 use Rattle.tree.specs.declared.descend.Fault.{Fault}
@@ -115,13 +113,6 @@ module _ {m marks marks' : List ℕ} {r : Bool} (kid : Kid) (s : Seen) (met : Ma
       within = omega (arith, number_in, room.used_in, room.total_in);
     }
 
-    -- and names entries if it is good
-    pub named : Room m → (least : ℕ) {w : ℕ} {b : Bool} → b ≡ k.fits least (kid_of kid) said → not b ≡ false
-        → w ≡ at m (slot_at kid.number) → Named m kid.number w
-    named room least {b = b} x g e =
-        let p : Good least kid.cover.lo (end_of kid.cover) said = good_parts (sym x ∙ not-false b g) in
-        good_named p (lies_inside room) e
-
     module _ (ready : Ready m (seen_with s marks)) where
       one_less : occ 0 (take (capacity_of m) marks') + 1 ≡ occ 0 (take (capacity_of m) marks)
       one_less =
@@ -153,13 +144,10 @@ module _ {m marks marks' : List ℕ} {r : Bool} (kid : Kid) (s : Seen) (met : Ma
             records_in = omega (arith, ready.records_in, view_length m kid.number);
           }
 
-      pub leaf_asks : {w : ℕ} → w ≡ at m (slot_at kid.number) → Leaf m w kid.number s
-      leaf_asks e =
+      pub leaf_asks : Leaf m s
+      leaf_asks =
           record {
             room = ready.room;
-            first = number_in.0;
-            most = number_in.1;
-            word_is = e;
             last_in = ready.last_in;
             nodes_in = omega (arith, ready.nodes_in, ready.room.capacity_in);
             records_in = omega (arith, ready.records_in, ready.nodes_in, ready.room.capacity_in);

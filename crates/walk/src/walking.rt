@@ -1,14 +1,15 @@
 // The whole pool walked from left to right, each number marked when it is reached, and the first fault that is met.
 ghost use Rattle.std.specs.Prelude.{ℕ, ◌≤◌, ◌≡◌, true, List, length, Some};
+ghost use Rattle.node.specs.inner.Looked.{end_of};
 ghost use Rattle.tree.specs.Header as h;
+ghost use Rattle.tree.specs.Kids as k;
 ghost use Rattle.tree.specs.Check as t;
 ghost use Rattle.change.specs.Check.{walked};
 ghost use Rattle.walk.specs.inner.Checking.{kid_of, seen_with, leaf_walk, Room, Marked};
 ghost use Rattle.walk.specs.inner.Checking.{Leaf, Ready, Walks, Passed};
 
 use change::Checked;
-use node::layout::{link, record_key, record_value, slot_word};
-use node::look::fits;
+use node::layout::link;
 use node::slot::{count, name};
 use node::{Cover, Node};
 use tree::descend::Fault;
@@ -87,22 +88,21 @@ fn links_to(pool: &[u64], earlier: u64, k: u64) -> bool
     earlier == 0 || link(pool, earlier) == k
 }
 
-// A leaf that has just been marked.
-fn check_leaf(pool: &[u64], word: u64, kid: Kid, seen: Seen) -> Result<Seen, Fault>
-    requires { Leaf pool.now word kid.number seen }
-    ensures { result ≡ leaf_walk pool.now (kid_of kid) seen }
+// A leaf that has just been marked, and the keys that it covers.
+fn check_leaf(leaf: &Node<'_>, cover: Cover, seen: Seen) -> Result<Seen, Fault>
+    requires { Leaf leaf.now.pool.now seen }
+    ensures { result ≡ leaf_walk leaf.now.pool.now (k.kid leaf.now.number cover.lo (end_of cover)) seen }
 {
-    let k = kid.number;
-    if !fits(pool, k, word, Kid::LEAF_LEAST, kid.cover) {
-        return Err(Fault { node: k });
+    if !leaf.fits(Kid::LEAF_LEAST, cover) {
+        return Err(Fault { node: leaf.number });
     }
-    if !links_to(pool, seen.last, k) {
+    if !links_to(leaf.pool, seen.last, leaf.number) {
         return Err(Fault { node: seen.last });
     }
     Ok(Seen {
-        last: k,
+        last: leaf.number,
         nodes: seen.nodes + 1,
-        records: seen.records + count(word),
+        records: seen.records + count(leaf.slot),
     })
 }
 
@@ -117,32 +117,31 @@ fn check_node(
     requires { Ready pool.now (seen_with seen marks.old) }
     ensures { Walks pool.now (t.node_walk levels pool.now kid.least kid.parent (kid_of kid) (seen_with seen marks.old)) result marks.new }
 {
-    let k = kid.number;
-    if !mark(pool, marks, k) {
+    if !mark(pool, marks, kid.number) {
         return Err(Fault { node: kid.parent });
     }
-    let word = slot_word(pool, k);
+    let node = Node::at(pool, kid.number);
     if levels == 0 {
-        return check_leaf(pool, word, kid, seen);
+        return check_leaf(&node, kid.cover, seen);
     }
-    if !fits(pool, k, word, kid.least, kid.cover) {
-        return Err(Fault { node: k });
+    if !node.fits(kid.least, kid.cover) {
+        return Err(Fault { node: kid.number });
     }
     let mut child = Kid {
-        number: link(pool, k),
+        number: node.link(),
         cover: kid.cover,
         least: Kid::BELOW_ROOT_LEAST,
-        parent: k,
+        parent: kid.number,
     };
     let mut seen = Seen {
         nodes: seen.nodes + 1,
         ..seen
     };
-    for slot in 0..count(word) {
-        let entry = name(word, slot);
-        let key = record_key(pool, k, entry);
+    for slot in 0..count(node.slot) {
+        let entry = name(node.slot, slot);
+        let key = node.key(entry);
         seen = check_node(pool, marks, levels - 1, child.until(key), seen)?;
-        child = child.next(key, record_value(pool, k, entry));
+        child = child.next(key, node.value(entry));
     }
     check_node(pool, marks, levels - 1, child, seen)
 }

@@ -1,9 +1,8 @@
 -- What the parts of the whole-pool check ask and answer, in the words of the walk of `tree`.
 use Rattle.std.specs.Prelude.{ℕ, ◌+◌, ◌*◌, ◌≤◌, ◌≡◌, List, Bool, true, not, length, take, Result, Ok, Err, if◌then◌else◌}
 use Rattle.words.specs.Pool.{capacity_most, total_of}
-use Rattle.words.specs.Event.{at}
 use Rattle.node.specs.Slot.{byte}
-use Rattle.node.specs.View.{view, slot_at}
+use Rattle.node.specs.View.{view}
 use Rattle.node.specs.inner.Looked.{end_of}
 use Rattle.tree.specs.Header.{capacity_of, used_of, form_agrees, counts_agree}
 use Rattle.tree.specs.Lists.{occ}
@@ -43,12 +42,9 @@ pub record Marked (m : List ℕ) (k : ℕ) (marks : List ℕ) (r : Bool) (marks'
   pub answer_is : r ≡ t.may_mark m k marks
   pub marks_are : marks' ≡ (if r then t.marked k marks else marks)
 
--- leaf k can be looked at, and counted
-pub record Leaf (m : List ℕ) (w k : ℕ) (s : Seen) : Type 0 where
+-- a leaf can be counted
+pub record Leaf (m : List ℕ) (s : Seen) : Type 0 where
   pub room : Room m
-  pub first : 1 ≤ k
-  pub most : k ≤ used_of m
-  pub word_is : w ≡ at m (slot_at k)
   pub last_in : s.last ≤ used_of m
   pub nodes_in : s.nodes ≤ capacity_most
   pub records_in : s.records ≤ byte * capacity_most

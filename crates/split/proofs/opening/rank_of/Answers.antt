@@ -11,9 +11,6 @@ unwrap-seen-requires c =
 
 pub place-requires : goal.place-requires
 place-requires c = record {
-  inside = (c.requires.0.inside, c.requires.1, good_sound _ (good_parts c.requires.0.good_is));
+  sound = good_sound _ (good_parts c.requires.0.good_is);
   after_value = (rw c.unwrap-seen.ensures at c.look.ensures).after_is;
 }
-
-pub returns : goal.returns
-returns c = c.place.ensures.rank_is

@@ -1,7 +1,8 @@
 -- `tree::path_to` meets its contract: a node a turn.
 use native.Mathlib.Omega.{arith}
+use Rattle.node.proofs.Views.{good_sound}
 use Rattle.tree.proofs.Form.{form}
-use Rattle.tree.proofs.Kids.{good_named, few_before}
+use Rattle.tree.proofs.Kids.{few_before}
 use Rattle.tree.proofs.Paths.{at_root, leaf_last, good_here, lies_inside, found_good, go_down}
 use Rattle.tree.proofs.pathing.path_to.Goals as goal
 
@@ -20,26 +21,29 @@ offset_bounds-path-left c = let h = (c.loop-left.invariant c.requires.1).low in 
 pub bounds-path-left : goal.bounds-path-left
 bounds-path-left c = let h = (c.loop-left.invariant c.requires.1).low in omega arith
 
-pub slot_word-slot-requires : goal.slot_word-slot-requires
-slot_word-slot-requires c = lies_inside _ _ _ (c.loop-left.invariant c.requires.1) (omega arith) c.requires.0
-
-pub look-requires : goal.look-requires
-look-requires c =
-    (lies_inside _ _ _ (c.loop-left.invariant c.requires.1) (omega arith) c.requires.0, c.slot_word-slot.ensures)
+pub at-node-requires : goal.at-node-requires
+at-node-requires c = lies_inside _ _ _ (c.loop-left.invariant c.requires.1) (omega arith) c.requires.0
 
 pub unwrap-seen-requires : goal.unwrap-seen-requires
-unwrap-seen-requires c = found_good _ _ _ (c.loop-left.invariant c.requires.1) (omega arith) _ c.look.ensures
+unwrap-seen-requires c =
+    let e = c.at-node.ensures in
+    found_good _ _ _ (c.loop-left.invariant c.requires.1) (omega arith) _ (rw (e.pool, e.number) at c.look.ensures)
 
-pub child-node-requires : goal.child-node-requires
-child-node-requires c =
-    let o = c.loop-left.invariant c.requires.1 in (
-      good_named (good_here _ _ _ o (omega arith)) (lies_inside _ _ _ o (omega arith) c.requires.0) c.slot_word-slot.ensures,
-      few_before _ _ (rw c.unwrap-seen.ensures at c.look.ensures) c.slot_word-slot.ensures,
+pub child-number-requires : goal.child-number-requires
+child-number-requires c =
+    let e = c.at-node.ensures in
+    let o = c.loop-left.invariant c.requires.1 in
+    let seen = rw c.unwrap-seen.ensures at c.look.ensures in (
+      rw (e.pool, e.number) (good_sound _ (good_here _ _ _ o (omega arith))),
+      few_before _ _ seen c.at-node.result.slot_is,
     )
 
 pub loop-left-preserved : goal.loop-left-preserved
 loop-left-preserved c =
-    λ r. go_down _ _ r (c.loop-left.invariant r) (omega arith) (rw c.unwrap-seen.ensures at c.look.ensures) c.child-node.ensures
+    let e = c.at-node.ensures in
+    let seen = rw c.unwrap-seen.ensures at c.look.ensures in
+    λ r. go_down _ _ r (c.loop-left.invariant r) (omega arith) (rw (e.pool, e.number) at seen)
+    (rw (e.pool, e.number) at c.child-number.ensures)
 
 pub returns : goal.returns
 returns c = leaf_last _ _ _ (c.loop-left.invariant c.requires.1) (omega arith)

@@ -6,7 +6,7 @@ use Rattle.walk.proofs.walking.+check_node.Given as goal
 
 abbrev pub invariant-loop-slot : goal.invariant-loop-slot
 invariant-loop-slot l =
-    Left l.pool (l.levels - 1) l.k l.initial.child (seen_with l.initial.seen l.initial.marks) l.slot l.child (seen_with l.seen l.marks)
+    Left l.pool (l.levels - 1) l.fn.kid.number l.initial.child (seen_with l.initial.seen l.initial.marks) l.slot l.child (seen_with l.seen l.marks)
 
 abbrev pub decreases-check_node : goal.decreases-check_node
 decreases-check_node l = l.levels
