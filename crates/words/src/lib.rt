@@ -3,8 +3,8 @@
 
 mod carry;
 mod event;
-pub mod limits;
-pub mod refusal;
+mod limits;
+mod refusal;
 mod write;
 
 pub use carry::{carry_all, carry_out};
