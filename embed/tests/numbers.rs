@@ -65,7 +65,11 @@ fn refusals() {
             ("the definition", numbers(&definition, "number ", " = ")),
             (
                 "the proved code",
-                numbers(&text("crates/words/src/refusal.rt"), "Refusal::", " => "),
+                numbers(
+                    &part(&text("crates/words/src/refusal.rt"), "pub enum Refusal {", "}"),
+                    "",
+                    " = ",
+                ),
             ),
         ],
     );

@@ -4,12 +4,11 @@ use mathlib.Core.Path.{◌≡◌, refl, sym, ◌∙◌, ap, subst}
 use mathlib.Core.Bool.{true}
 use mathlib.Core.Logic.{◌⊎◌, inl, inr}
 use mathlib.Core.List.{List, [], ◌∷◌}
-use Rattle.std.specs.Prelude.{Option, Some as some, None as none}
+use Rattle.std.specs.Prelude.{Option, Some as some, None as none, Ok}
 use native.Mathlib.Omega.{arith}
 use lib.ListN.{length, length-set, set}
 use lib.Seq.{get_or-set_same, get_or-set_other}
 use borrow.Author.Tests.{le-leb, lt-leb}
-use Rattle.std.specs.Prelude.{Ok}
 use Rattle.words.specs.declared.event.Event.{Event}
 use Rattle.words.specs.declared.event.Event.TheVariants.{Store as store, Flush as flush, Fence as fence}
 use Rattle.words.specs.Event.{number_of, first_word, second_word, top_byte}
