@@ -9,6 +9,9 @@ use change::Request;
 // A desk is empty, or holds a request.
 pub type Desk = Option<Request>;
 
+// The desks of a list, at most.
+pub const DESKS_MOST: usize = 16;
+
 // A desk in the form that a caller lends.
 pub trait Lent: Copy {
     // What it says.
@@ -17,15 +20,16 @@ pub trait Lent: Copy {
     // A list of them, read as desks.
     ghost reads: { List Self → List d.Desk };
 
-    // One that says this.
+    // One that says a given thing.
     ghost made: { d.Desk → Self };
 
     fn desk(self) -> Desk
         ensures { result ≡ says self };
 
-    fn lend(desk: Desk) -> Self
+    fn from_desk(desk: Desk) -> Self
         ensures { result ≡ made desk };
 
+    // The laws: a list is read desk by desk, and what is made is read back.
     ghost reads_each: { (ds : List Self) → reads ds ≡ map says ds };
 
     ghost says_made: { (d : d.Desk) → says (made d) ≡ d };
@@ -42,7 +46,7 @@ impl Lent for Option<Request> {
         self
     }
 
-    fn lend(desk: Desk) -> Desk {
+    fn from_desk(desk: Desk) -> Desk {
         desk
     }
 

@@ -9,6 +9,6 @@ mod turning;
 
 pub use answer::{Turn, Turned};
 pub use asking::{Asked, ask};
-pub use lent::{Desk, Lent};
-pub use submitting::{DESKS_MOST, submit};
+pub use lent::{DESKS_MOST, Desk, Lent};
+pub use submitting::submit;
 pub use turning::{plan_turn, turn};

@@ -4,12 +4,9 @@ ghost use Rattle.desk.specs.Desk.{may_submit};
 ghost use Rattle.desk.specs.Lent.{laid};
 ghost use Rattle.desk.specs.Promises.{SubmitPromise};
 
-use crate::lent::Lent;
+use crate::lent::{DESKS_MOST, Lent};
 use change::Request;
 use words::Refusal;
-
-// The desks of a list, at most.
-pub const DESKS_MOST: usize = 16;
 
 // The place of a member's desk.
 fn seat(desks: usize, member: u64) -> Result<usize, Refusal>
@@ -29,6 +26,6 @@ pub fn submit<L: Lent>(desks: &mut [L], member: u64, request: Request) -> Result
     if desks[i].desk().is_some() {
         return Err(Refusal::FullDesk);
     }
-    desks[i] = L::lend(Some(request));
+    desks[i] = L::from_desk(Some(request));
     Ok(())
 }

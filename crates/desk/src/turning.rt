@@ -9,8 +9,7 @@ ghost use Rattle.desk.specs.inner.Parts.{found, chosen};
 ghost use Rattle.desk.specs.inner.Parts as parts;
 
 use crate::answer::{Turn, Turned};
-use crate::lent::Lent;
-use crate::submitting::DESKS_MOST;
+use crate::lent::{DESKS_MOST, Lent};
 use change::{Answer, Request};
 use words::{Pool, Refusal};
 
@@ -87,7 +86,7 @@ pub fn plan_turn<L: Lent>(pool: &[u64], list: &mut [u64], desks: &mut [L], last:
         Ok(None) => return unserved(Ok(Turned::Idle), last),
         Ok(Some(chosen)) => chosen,
     };
-    desks[i] = L::lend(None);
+    desks[i] = L::from_desk(None);
     served(pool::serve(pool, list, request), i as u64 + 1)
 }
 

@@ -40,7 +40,7 @@ impl Lent for DeskRecord {
         }
     }
 
-    fn lend(desk: Desk) -> DeskRecord {
+    fn from_desk(desk: Desk) -> DeskRecord {
         let (kind, key, value) = match desk {
             None => (DeskRecord::NOTHING, 0, 0),
             Some(Request::Put(key, value)) => (DeskRecord::PUT, key, value),

@@ -26,4 +26,4 @@ returns g c =
     let h = lays w.reads_each g.L.Lent.made w.says_made c.args.desks.now c.args.member c.args.request c.in_ok-i.i
     c.index-desks-i.result (sym c.seat.ensures ∙ c.in_ok-i.was) c.index-desks-i.is
     (rw (← c.desk.ensures) (sym c.is_some.ensures ∙ c.if-is_some.false)) in
-    record { promise = rw c.lend.ensures h.0; lent = rw c.lend.ensures h.1 }
+    record { promise = rw c.from_desk.ensures h.0; lent = rw c.from_desk.ensures h.1 }

@@ -61,5 +61,5 @@ returns g c =
     let is = served w.reads_each g.L.Lent.made w.says_made c.args.pool.now _ c.args.desks.now _ c.in-Ok-Some.chosen chosen in
     let h = does w.reads_each g.L.Lent.made w.says_made _ _ c.args.desks.now _ _ _ _ is.0
     (answers _ c.in-Ok-Some.chosen.0 c.served.ensures (answer_told _ _ c.serve.ensures.0)) c.serve.ensures.1
-    (rw (c.lend.ensures, c.served.ensures, add-one c.in-Ok-Some.chosen.0)) in
+    (rw (c.from_desk.ensures, c.served.ensures, add-one c.in-Ok-Some.chosen.0)) in
     record { promise = h.0; lent = h.1 }
