@@ -42,25 +42,25 @@ module _ (f : k.Kid → t.Seen → t.Walk) (c : k.Kid) (s : t.Seen) {m marks : L
     unfolding t.each_child
     goes first = carried (rw (is, ← first.walk_is))
 
--- the records of a sound node, n of them in all, from a slot on
-module _ (j : Node) (good : sound 0 (said j) ≡ true) {n : ℕ} (n_is : n ≡ count j.slot) (slot : ℕ) (kid : Kid) where
-  sized : length (said j).records ≡ count j.slot
-  sized = view_length j.pool.now j.number ∙ ap count (sym j.slot_is)
+-- the children of a node from a slot on: the last one, or the one in the slot and those after it
+module _ (j : Node) (slot : ℕ) (kid : Kid) where
+  abbrev records : List Record
+  records = (said j).records
 
-  pub last_kid : slot ≡ n → kids_left j slot kid ≡ kid_of kid ∷ []
+  pub last_kid : slot ≡ count j.slot → kids_left j slot kid ≡ kid_of kid ∷ []
   last_kid e =
-      let past : length (said j).records ≤ slot = omega (arith, sized) in
-      let none : drop slot (said j).records ≡ [] = drop_of_length-le (said j).records past in
+      let past : length records ≤ slot = omega (arith, view_length j.pool.now j.number, ap count j.slot_is) in
+      let none : drop slot records ≡ [] = drop_of_length-le records past in
       rw none
 
   -- the entry that the slot names, its key and its child
-  module _ (more : slot < count j.slot) {e : ℕ} (e_is : e ≡ get_or (names j.slot) slot 0) {key child : ℕ}
-      (key_is : key ≡ at j.pool.now (key_at j.number e)) (child_is : child ≡ at j.pool.now (value_at j.number e)) where
-    splits : drop slot (said j).records ≡ (key, child) ∷ drop (slot + 1) (said j).records
+  module _ (good : sound 0 (said j) ≡ true) (more : slot < count j.slot) {e : ℕ} (e_is : e ≡ get_or (names j.slot) slot 0)
+      {key child : ℕ} (key_is : key ≡ at j.pool.now (key_at j.number e)) (child_is : child ≡ at j.pool.now (value_at j.number e)) where
+    splits : drop slot records ≡ (key, child) ∷ drop (slot + 1) records
     splits =
         let there = named_at j.pool.now j.number j.slot (sound_named j good) slot more e_is in
-        rw (add-one slot) (drop-cons (said j).records slot (0, 0) there.0
-        ∙ ap (λ (x : Record). x ∷ drop (suc slot) (said j).records) (there.1 ∙ rw (← key_is, ← child_is)))
+        rw (add-one slot) (drop-cons records slot (0, 0) there.0
+        ∙ ap (λ (x : Record). x ∷ drop (suc slot) records) (there.1 ∙ rw (← key_is, ← child_is)))
 
     pub next_kid : kids_left j slot kid ≡ kid_of (record kid { cover = record kid.cover { hi = Some key } })
         ∷ kids_left j (slot + 1) (record kid { number = child; cover = record kid.cover { lo = key } })

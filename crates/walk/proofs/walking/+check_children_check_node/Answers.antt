@@ -1,7 +1,6 @@
 -- `walk::check_node` and `walk::check_children` meet their contracts: each need is a law of the walk.
 use Prim.Native.Nat.{ℕ, ◌+◌}
-use mathlib.Core.Bool.{not}
-use mathlib.Core.Path.{◌≡◌, sym, ◌∙◌, ap}
+use mathlib.Core.Path.{◌≡◌, sym, ◌∙◌}
 use mathlib.Core.List.{◌∷◌}
 use native.Mathlib.Omega.{arith}
 use Rattle.std.specs.Prelude.{Some}
@@ -21,7 +20,7 @@ check_children-check_node-requires t c = (omega (arith, (sound_named c.args.node
 
 pub check_children-returns-then-slot-count : goal.check_children-returns-then-slot-count
 check_children-returns-then-slot-count t c =
-    ch.only _ _ _ c.check_node.ensures (ch.last_kid c.args.node.now c.requires.1 c.count.ensures _ c.args.kid c.if-slot-count.true)
+    ch.only _ _ _ c.check_node.ensures (ch.last_kid c.args.node.now _ c.args.kid (c.if-slot-count.true ∙ c.count.ensures))
 
 pub check_children-name-entry-requires : goal.check_children-name-entry-requires
 check_children-name-entry-requires t c = (omega arith, (sound_named c.args.node.now c.requires.1).few)
@@ -41,7 +40,7 @@ turn : {t : ℕ} (c : check_children-After-until t) → kids_left c.args.node.no
     ∷ kids_left c.args.node.now (c.args.slot + 1)
     (record c.args.kid { number = c.value.result; cover = record c.args.kid.cover { lo = c.key-key.result } })
 turn c =
-    ch.next_kid c.args.node.now c.requires.1 c.count.ensures _ c.args.kid (omega arith) c.name-entry.ensures c.key-key.ensures c.value.ensures
+    ch.next_kid c.args.node.now _ c.args.kid c.requires.1 (omega arith) c.name-entry.ensures c.key-key.ensures c.value.ensures
 
 pub check_children-returns-in_err-met : goal.check_children-returns-in_err-met
 check_children-returns-in_err-met t c =
@@ -61,13 +60,13 @@ check_children-returns t c =
     ch.goes _ _ _ split (rw c.until.ensures at c.in_ok-met.ensures) (rw c.next-next.ensures at c.check_children.ensures)
 
 pub check_node-returns-then-not-mark : goal.check_node-returns-then-not-mark
-check_node-returns-then-not-mark t c = w.stale c.args.kid c.args.seen c.mark.ensures _ _ _ (ap not c.if-not-mark.true)
+check_node-returns-then-not-mark t c = w.stale c.args.kid c.args.seen c.mark.ensures _ _ _ c.if-not-mark.true
 
 pub check_node-returns-then-levels-eq0 : goal.check_node-returns-then-levels-eq0
 check_node-returns-then-levels-eq0 t c =
     let a = c.args in
     let e = c.at-node.ensures in
-    w.leaf_done a.kid a.seen c.mark.ensures _ _ _ (ap not c.if-not-mark.false) c.requires c.if-levels-eq0.true
+    w.leaf_done a.kid a.seen c.mark.ensures _ _ _ c.if-not-mark.false c.requires c.if-levels-eq0.true
     (rw (e.pool, e.number) at c.check_leaf.ensures)
 
 -- whether the node is good
@@ -79,11 +78,11 @@ pub check_node-returns-then-not-fits : goal.check_node-returns-then-not-fits
 check_node-returns-then-not-fits t c =
     let a = c.args in
     let good = fits (goal.at.check_node-returns-then-not-fits t c).After-fits in
-    w.bad a.kid a.seen c.mark.ensures _ _ _ (ap not c.if-not-mark.false) c.if-levels-eq0.false good (ap not c.if-not-fits.true)
+    w.bad a.kid a.seen c.mark.ensures _ _ _ c.if-not-mark.false c.if-levels-eq0.false good c.if-not-fits.true
 
 pub check_node-check_children-requires : goal.check_node-check_children-requires
 check_node-check_children-requires t c =
-    let ready = w.counted c.args.kid c.args.seen c.mark.ensures (ap not c.if-not-mark.false) c.requires in
+    let ready = w.counted c.args.kid c.args.seen c.mark.ensures c.if-not-mark.false c.requires in
     let good = good_sound _ (good_parts (sym c.fits.ensures ∙ c.if-not-fits.false)) in
     (omega arith, (rw c.at-node.ensures.pool ready, good, omega arith))
 
@@ -92,5 +91,5 @@ check_node-returns t c =
     let a = c.args in
     let e = c.at-node.ensures in
     let good = fits (goal.at.check_node-returns t c).After-fits in
-    w.down a.kid a.seen c.mark.ensures _ _ _ (ap not c.if-not-mark.false) c.if-levels-eq0.false
-    good (ap not c.if-not-fits.false) (rw (e.pool, e.number) at c.link.ensures) (rw (e.pool, e.number) at c.check_children.ensures)
+    w.down a.kid a.seen c.mark.ensures _ _ _ c.if-not-mark.false c.if-levels-eq0.false
+    good c.if-not-fits.false (rw (e.pool, e.number) at c.link.ensures) (rw (e.pool, e.number) at c.check_children.ensures)
