@@ -6,25 +6,21 @@ use native.Mathlib.Omega.{arith}
 use native.Mathlib.Numerals.{add-one}
 use lib.ListN.{length, get_or, drop, drop_of_length-le}
 use lib.Seq.{drop-cons}
-use Rattle.std.specs.Prelude.{Result, Ok, Err, Some}
+use Rattle.std.specs.Prelude.{Result, Ok, Err, Some, true}
 use Rattle.words.specs.Event.{at}
 use Rattle.node.specs.Slot.{count, names}
-use Rattle.node.specs.View.{Record, view, key_at, value_at}
-use Rattle.node.specs.inner.Looked.{end_of}
+use Rattle.node.specs.View.{Record, sound, key_at, value_at}
+use Rattle.node.specs.declared.layout.Node.{Node}
+use Rattle.node.specs.inner.Said.{said}
 use Rattle.node.proofs.Views.{view_length}
 use Rattle.tree.specs.declared.descend.Fault.{Fault}
-use Rattle.tree.specs.inner.Descended.{Named}
 use Rattle.tree.specs.Kids as k
 use Rattle.tree.specs.Check as t
-use Rattle.tree.proofs.Kids.{named_at}
+use Rattle.tree.proofs.Kids.{sound_named, named_at}
 use Rattle.walk.specs.declared.walking.Kid.{Kid}
 use Rattle.walk.specs.declared.walking.Seen.{Seen}
-use Rattle.walk.specs.inner.Checking.{kid_of, seen_with, Ready, Walks}
+use Rattle.walk.specs.inner.Checking.{kid_of, kids_left, seen_with, Walks}
 use Rattle.walk.proofs.Walks.{stopped, carried}
-
--- the children of node j from a slot on: c is the one in the slot, and covers all that are left
-abbrev pub kids_left : List ℕ → ℕ → ℕ → Kid → List k.Kid
-kids_left m j slot c = k.kids_from c.number c.cover.lo (end_of c.cover) (drop slot (view m j).records)
 
 -- the walk of some children, the first of which is walked by f
 module _ (f : k.Kid → t.Seen → t.Walk) (c : k.Kid) (s : t.Seen) {m marks : List ℕ} where
@@ -41,38 +37,31 @@ module _ (f : k.Kid → t.Seen → t.Walk) (c : k.Kid) (s : t.Seen) {m marks : L
     unfolding t.each_child
     stops first = stopped (rw (is, ← first.walk_is))
 
-    pub goes : {s' : Seen} → Walks m (f c s) (Ok s') marks → t.each_child f cs s ≡ t.each_child f cs' (seen_with s' marks)
+    pub goes : {s' : Seen} → Walks m (f c s) (Ok s') marks → {r : Result Seen Fault} {marks' : List ℕ}
+        → Walks m (t.each_child f cs' (seen_with s' marks)) r marks' → Walks m (t.each_child f cs s) r marks'
     unfolding t.each_child
-    goes first = rw (is, ← first.walk_is)
+    goes first = carried (rw (is, ← first.walk_is))
 
--- the children of node j, walked up to a slot: the walk of all comes to that of those left, after what was seen, and can go on
-pub record Left (m : List ℕ) (levels j : ℕ) (first : Kid) (s₀ : t.Seen) (slot : ℕ) (c : Kid) (s : t.Seen) : Type 0 where
-  pub walk_is : t.each_child (t.node_walk levels m k.below_root_least j) (kids_left m j 0 first) s₀
-      ≡ t.each_child (t.node_walk levels m k.below_root_least j) (kids_left m j slot c) s
-  pub least_is : c.least ≡ k.below_root_least
-  pub parent_is : c.parent ≡ j
-  pub ready : Ready m s
+-- the children of a node from a slot on: the last one, or the one in the slot and those after it
+module _ (j : Node) (slot : ℕ) (kid : Kid) where
+  abbrev records : List Record
+  records = (said j).records
 
--- the records of node j, n of them in all, from a slot on
-module _ {m : List ℕ} {j w : ℕ} (asked : Named m j w) {n : ℕ} (n_is : n ≡ count w) where
-  sized : length (view m j).records ≡ count w
-  sized = view_length m j ∙ ap count (sym asked.word)
-
-  pub last_kid : (slot : ℕ) → n ≤ slot → (kid : Kid) → kids_left m j slot kid ≡ kid_of kid ∷ []
-  last_kid slot h kid =
-      let past : length (view m j).records ≤ slot = omega (arith, sized) in
-      let none : drop slot (view m j).records ≡ [] = drop_of_length-le (view m j).records past in
+  pub last_kid : slot ≡ count j.slot → kids_left j slot kid ≡ kid_of kid ∷ []
+  last_kid e =
+      let past : length records ≤ slot = omega (arith, view_length j.pool.now j.number, ap count j.slot_is) in
+      let none : drop slot records ≡ [] = drop_of_length-le records past in
       rw none
 
   -- the entry that the slot names, its key and its child
-  module _ (slot : ℕ) (more : slot < n) {e : ℕ} (e_is : e ≡ get_or (names w) slot 0) {key child : ℕ} (key_is : key ≡ at m (key_at j e))
-      (child_is : child ≡ at m (value_at j e)) where
-    splits : drop slot (view m j).records ≡ (key, child) ∷ drop (slot + 1) (view m j).records
+  module _ (good : sound 0 (said j) ≡ true) (more : slot < count j.slot) {e : ℕ} (e_is : e ≡ get_or (names j.slot) slot 0)
+      {key child : ℕ} (key_is : key ≡ at j.pool.now (key_at j.number e)) (child_is : child ≡ at j.pool.now (value_at j.number e)) where
+    splits : drop slot records ≡ (key, child) ∷ drop (slot + 1) records
     splits =
-        let there = named_at m j w asked slot (omega arith) e_is in
-        rw (add-one slot) (drop-cons (view m j).records slot (0, 0) there.0
-        ∙ ap (λ (x : Record). x ∷ drop (suc slot) (view m j).records) (there.1 ∙ rw (← key_is, ← child_is)))
+        let there = named_at j.pool.now j.number j.slot (sound_named j good) slot more e_is in
+        rw (add-one slot) (drop-cons records slot (0, 0) there.0
+        ∙ ap (λ (x : Record). x ∷ drop (suc slot) records) (there.1 ∙ rw (← key_is, ← child_is)))
 
-    pub next_kid : (kid : Kid) → kids_left m j slot kid ≡ kid_of (record kid { cover = record kid.cover { hi = Some key } })
-        ∷ kids_left m j (slot + 1) (record kid { number = child; cover = record kid.cover { lo = key } })
-    next_kid kid = rw splits
+    pub next_kid : kids_left j slot kid ≡ kid_of (record kid { cover = record kid.cover { hi = Some key } })
+        ∷ kids_left j (slot + 1) (record kid { number = child; cover = record kid.cover { lo = key } })
+    next_kid = rw splits

@@ -6,7 +6,7 @@ use mathlib.Core.Bool.{Bool, true, false, not}
 use native.Mathlib.Omega.{arith}
 use native.Mathlib.Nat.{mod-lt}
 use native.Mathlib.Numerals.{sub-one}
-use borrow.Author.Tests.{not-true, not-false, eqb-true}
+use borrow.Author.Tests.{eqb-true}
 use lib.Dec.{eqb, lit≤}
 use lib.ListN.{length, take, length-set}
 use Rattle.std.specs.Prelude.{if◌then◌else◌, Result, Ok, Err}
@@ -15,7 +15,7 @@ use Rattle.words.specs.Event.{at}
 use Rattle.words.proofs.Tests.{both, within_says}
 use Rattle.node.specs.Slot.{byte, count}
 use Rattle.node.specs.View.{View, view, slot_at, link_at}
-use Rattle.node.specs.inner.Looked.{Inside, end_of}
+use Rattle.node.specs.inner.Looked.{end_of}
 use Rattle.node.proofs.Views.{view_length}
 use Rattle.tree.specs.Header.{capacity_of, used_of}
 use Rattle.tree.specs.Kids as k
@@ -24,7 +24,7 @@ use Rattle.tree.specs.Lists.{occ}
 use Rattle.walk.specs.declared.walking.Kid.{Kid}
 use Rattle.walk.specs.declared.walking.Seen.{Seen}
 use Rattle.tree.specs.declared.descend.Fault.{Fault}
-use Rattle.walk.specs.inner.Checking.{kid_of, seen_with, walk_with, leaf_walk, Room, Marked, Leaf, Ready, ReadyAfter, Walks}
+use Rattle.walk.specs.inner.Checking.{kid_of, seen_with, walk_with, leaf_walk, Marked, Ready, ReadyAfter, Walks}
 use Rattle.walk.proofs.Marks.{unmarked_less}
 
 -- a walk that stops
@@ -82,7 +82,8 @@ leaf_cases true false j last s marks = refl
 leaf_cases true true j last s marks = refl
 
 leaf_ready : (good linked : Bool) (j last : ℕ) (m : List ℕ) (s : Seen) (marks : List ℕ) → Ready m (seen_with s marks)
-    → ReadyAfter m (walk_with (if not good then Err (record { node = j }) else if not linked then Err (record { node = last }) else Ok s) marks)
+    → ReadyAfter m (walk_with
+    (if not good then Err (record { node = j }) else if not linked then Err (record { node = last }) else Ok s) marks)
 leaf_ready false linked j last m s marks h = tt
 leaf_ready true false j last m s marks h = tt
 leaf_ready true true j last m s marks h = h
@@ -92,26 +93,18 @@ module _ {m marks marks' : List ℕ} {r : Bool} (kid : Kid) (s : Seen) (met : Ma
   abbrev said : View
   said = view m kid.number
 
-  module _ (n : not r ≡ false) where
+  module _ (n : r ≡ true) where
     fresh : t.may_mark m kid.number marks ≡ true
-    fresh = sym met.answer_is ∙ not-false r n
+    fresh = sym met.answer_is ∙ n
 
     tests : (within 1 kid.number (used_of m) ≡ true) × (eqb (at marks (kid.number - 1)) 0 ≡ true)
     tests = both fresh
 
     marked : marks' ≡ t.marked kid.number marks
-    marked = rw (not-false r n) at met.marks_are
+    marked = rw n at met.marks_are
 
-    pub number_in : (1 ≤ kid.number) × (kid.number ≤ used_of m)
+    number_in : (1 ≤ kid.number) × (kid.number ≤ used_of m)
     number_in = within_says 1 kid.number (used_of m) tests.0
-
-    -- it lies inside the pool
-    pub lies_inside : Room m → Inside m kid.number
-    lies_inside room = record {
-      first = number_in.0;
-      most = omega (arith, number_in, room.used_in, room.capacity_in);
-      within = omega (arith, number_in, room.used_in, room.total_in);
-    }
 
     module _ (ready : Ready m (seen_with s marks)) where
       one_less : occ 0 (take (capacity_of m) marks') + 1 ≡ occ 0 (take (capacity_of m) marks)
@@ -144,28 +137,19 @@ module _ {m marks marks' : List ℕ} {r : Bool} (kid : Kid) (s : Seen) (met : Ma
             records_in = omega (arith, ready.records_in, view_length m kid.number);
           }
 
-      pub leaf_asks : Leaf m s
-      leaf_asks =
-          record {
-            room = ready.room;
-            last_in = ready.last_in;
-            nodes_in = omega (arith, ready.nodes_in, ready.room.capacity_in);
-            records_in = omega (arith, ready.records_in, ready.nodes_in, ready.room.capacity_in);
-          }
-
   -- what its walk comes to
   module _ (levels least parent : ℕ) where
     abbrev walk : t.Walk
     walk = t.node_walk levels m least parent (kid_of kid) (seen_with s marks)
 
-    pub stale : not r ≡ true → Walks m walk (Err (record { node = parent })) marks'
+    pub stale : r ≡ false → Walks m walk (Err (record { node = parent })) marks'
     stale n =
-        let f : r ≡ false = not-true r n in
-        let same : marks' ≡ marks = rw f at met.marks_are in
-        stopped (node_stale m least parent (kid_of kid) (seen_with s marks) levels (sym met.answer_is ∙ f) ∙ rw same)
+        let same : marks' ≡ marks = rw n at met.marks_are in
+        stopped (node_stale m least parent (kid_of kid) (seen_with s marks) levels (sym met.answer_is ∙ n) ∙ rw same)
 
-    module _ (n : not r ≡ false) where
-      pub leaf_done : Ready m (seen_with s marks) → levels ≡ 0 → {a : Result Seen Fault} → a ≡ leaf_walk m (kid_of kid) s → Walks m walk a marks'
+    module _ (n : r ≡ true) where
+      pub leaf_done : Ready m (seen_with s marks) → levels ≡ 0 → {a : Result Seen Fault} → a ≡ leaf_walk m (kid_of kid) s
+          → Walks m walk a marks'
       leaf_done ready z {a} e =
           record {
             walk_is = is;
@@ -187,16 +171,14 @@ module _ {m marks marks' : List ℕ} {r : Bool} (kid : Kid) (s : Seen) (met : Ma
               ∙ node_leaf m least parent (kid_of kid) (seen_with s marks) (fresh n) levels z)
 
       module _ (z : levels ≡ 0 → ⊥) {b : Bool} (x : b ≡ k.fits least (kid_of kid) said) where
-        pub bad : not b ≡ true → Walks m walk (Err (record { node = kid.number })) marks'
+        pub bad : b ≡ false → Walks m walk (Err (record { node = kid.number })) marks'
         bad g =
-            let f = sym x ∙ not-true b g in
-            stopped (node_bad m least parent (kid_of kid) (seen_with s marks) (fresh n) levels z f ∙ rw (marked n))
+            stopped (node_bad m least parent (kid_of kid) (seen_with s marks) (fresh n) levels z (sym x ∙ g) ∙ rw (marked n))
 
-        pub down : not b ≡ false → {link : ℕ} → link ≡ at m (link_at kid.number) → {a : Result Seen Fault} {marks'' : List ℕ}
+        pub down : b ≡ true → {link : ℕ} → link ≡ at m (link_at kid.number) → {a : Result Seen Fault} {marks'' : List ℕ}
             → Walks m (t.each_child (t.node_walk (levels - 1) m k.below_root_least kid.number)
             (k.kids_from link kid.cover.lo (end_of kid.cover) said.records)
             (seen_with (record { last = s.last; nodes = s.nodes + 1; records = s.records }) marks')) a marks'' → Walks m walk a marks''
         down g e y =
-            let f = sym x ∙ not-false b g in
             carried (rw (e, ← view_link m kid.number, marked n)
-            (node_down m least parent (kid_of kid) (seen_with s marks) (fresh n) levels z f)) y
+            (node_down m least parent (kid_of kid) (seen_with s marks) (fresh n) levels z (sym x ∙ g))) y

@@ -1,11 +1,14 @@
 // The whole pool walked from left to right, each number marked when it is reached, and the first fault that is met.
 ghost use Rattle.std.specs.Prelude.{ℕ, ◌≤◌, ◌≡◌, true, List, length, Some};
+ghost use Rattle.node.specs.Slot as s;
+ghost use Rattle.node.specs.View.{sound};
 ghost use Rattle.node.specs.inner.Looked.{end_of};
+ghost use Rattle.node.specs.inner.Said.{said};
 ghost use Rattle.tree.specs.Header as h;
 ghost use Rattle.tree.specs.Kids as k;
 ghost use Rattle.tree.specs.Check as t;
 ghost use Rattle.change.specs.Check.{walked};
-ghost use Rattle.walk.specs.inner.Checking.{kid_of, seen_with, leaf_walk, Room, Marked};
+ghost use Rattle.walk.specs.inner.Checking.{kid_of, kids_left, seen_with, leaf_walk, Room, Marked};
 ghost use Rattle.walk.specs.inner.Checking.{Leaf, Ready, Walks, Passed};
 
 use change::Checked;
@@ -106,7 +109,8 @@ fn check_leaf(leaf: &Node<'_>, cover: Cover, seen: Seen) -> Result<Seen, Fault>
     })
 }
 
-// A node with some levels below it, and all that is below it: child by child, each covering what is left up to the next key.
+// A node with some levels below it, and all that is below it.
+#[cycle(check_children_check_node)]
 fn check_node(
     pool: &[u64],
     marks: &mut [u8],
@@ -127,23 +131,41 @@ fn check_node(
     if !node.fits(kid.least, kid.cover) {
         return Err(Fault { node: kid.number });
     }
-    let mut child = Kid {
+    let leftmost = Kid {
         number: node.link(),
         cover: kid.cover,
         least: Kid::BELOW_ROOT_LEAST,
         parent: kid.number,
     };
-    let mut seen = Seen {
+    let counted = Seen {
         nodes: seen.nodes + 1,
         ..seen
     };
-    for slot in 0..count(node.slot) {
-        let entry = name(node.slot, slot);
-        let key = node.key(entry);
-        seen = check_node(pool, marks, levels - 1, child.until(key), seen)?;
-        child = child.next(key, node.value(entry));
+    check_children(&node, marks, levels - 1, 0, leftmost, counted)
+}
+
+// The children of a node from a slot on, slot 0 being the leftmost. The kid is the one in the slot, and covers all that are left.
+#[cycle(check_children_check_node)]
+fn check_children(
+    node: &Node<'_>,
+    marks: &mut [u8],
+    levels: u64,
+    slot: u64,
+    kid: Kid,
+    seen: Seen,
+) -> Result<Seen, Fault>
+    requires { Ready node.now.pool.now (seen_with seen marks.old) × (sound 0 (said node.now) ≡ true) × (slot ≤ s.count node.now.slot) }
+    ensures { Walks node.now.pool.now (t.each_child (t.node_walk levels node.now.pool.now kid.least kid.parent)
+        (kids_left node.now slot kid) (seen_with seen marks.old)) result marks.new }
+{
+    if slot == count(node.slot) {
+        return check_node(node.pool, marks, levels, kid, seen);
     }
-    check_node(pool, marks, levels - 1, child, seen)
+    let entry = name(node.slot, slot);
+    let key = node.key(entry);
+    let next = kid.next(key, node.value(entry));
+    let met = check_node(node.pool, marks, levels, kid.until(key), seen)?;
+    check_children(node, marks, levels, slot + 1, next, met)
 }
 
 // The two tests at the end, once all has been walked.

@@ -1,9 +1,11 @@
 -- What the parts of the whole-pool check ask and answer, in the words of the walk of `tree`.
-use Rattle.std.specs.Prelude.{ℕ, ◌+◌, ◌*◌, ◌≤◌, ◌≡◌, List, Bool, true, not, length, take, Result, Ok, Err, if◌then◌else◌}
+use Rattle.std.specs.Prelude.{ℕ, ◌+◌, ◌*◌, ◌≤◌, ◌≡◌, List, Bool, true, not, length, take, drop, Result, Ok, Err, if◌then◌else◌}
 use Rattle.words.specs.Pool.{capacity_most, total_of}
 use Rattle.node.specs.Slot.{byte}
 use Rattle.node.specs.View.{view}
+use Rattle.node.specs.declared.layout.Node.{Node}
 use Rattle.node.specs.inner.Looked.{end_of}
+use Rattle.node.specs.inner.Said.{said}
 use Rattle.tree.specs.Header.{capacity_of, used_of, form_agrees, counts_agree}
 use Rattle.tree.specs.Lists.{occ}
 use Rattle.tree.specs.Kids as k
@@ -22,6 +24,10 @@ seen_with s marks = record { marks = marks; last = s.last; nodes = s.nodes; reco
 abbrev pub walk_with : Result Seen Fault → List ℕ → t.Walk
 walk_with (Err f) marks = t.fault f.node marks
 walk_with (Ok s) marks = t.going (seen_with s marks)
+
+-- the children of a node from a slot on: c is the one in the slot, and covers all that are left
+abbrev pub kids_left : Node → ℕ → Kid → List k.Kid
+kids_left n slot c = k.kids_from c.number c.cover.lo (end_of c.cover) (drop slot (said n).records)
 
 -- a leaf that is marked: its own faults, then the earlier leaf's link
 abbrev pub leaf_walk : List ℕ → k.Kid → Seen → Result Seen Fault
