@@ -10,9 +10,9 @@ use node::Node;
 use node::slot::{count, name};
 
 // The child of a sound node that has j keys before it.
-pub fn child(node: &Node<'_>, j: u64) -> u64
-    requires { (sound 0 (said node.now) ≡ true) × (j ≤ s.count node.now.slot) }
-    ensures { (lo hi : ℕ) → result ≡ (kid_after node.now.pool.now (kid node.now.number lo hi) j).number }
+pub fn child(node: Node<'_>, j: u64) -> u64
+    requires { (sound 0 (said node) ≡ true) × (j ≤ s.count node.slot) }
+    ensures { (lo hi : ℕ) → result ≡ (kid_after node.entry.pool.now (kid node.entry.number lo hi) j).number }
 {
     if j == 0 {
         return node.link();
@@ -21,9 +21,9 @@ pub fn child(node: &Node<'_>, j: u64) -> u64
 }
 
 // The first key that this child covers, where the first of the node is `from`.
-pub fn first_key(node: &Node<'_>, j: u64, from: u64) -> u64
-    requires { (sound 0 (said node.now) ≡ true) × (j ≤ s.count node.now.slot) }
-    ensures { (hi : ℕ) → result ≡ (kid_after node.now.pool.now (kid node.now.number from hi) j).from }
+pub fn first_key(node: Node<'_>, j: u64, from: u64) -> u64
+    requires { (sound 0 (said node) ≡ true) × (j ≤ s.count node.slot) }
+    ensures { (hi : ℕ) → result ≡ (kid_after node.entry.pool.now (kid node.entry.number from hi) j).from }
 {
     if j == 0 {
         return from;
@@ -32,10 +32,10 @@ pub fn first_key(node: &Node<'_>, j: u64, from: u64) -> u64
 }
 
 // The last key that this child covers, where the last of the node is `top`.
-pub fn last_key(node: &Node<'_>, j: u64, top: u64) -> u64
-    requires { (sound 0 (said node.now) ≡ true) × (j ≤ s.count node.now.slot)
-        × (1 ≤ (kid_after node.now.pool.now (kid node.now.number 0 (suc top)) j).upto) }
-    ensures { (lo : ℕ) → suc result ≡ (kid_after node.now.pool.now (kid node.now.number lo (suc top)) j).upto }
+pub fn last_key(node: Node<'_>, j: u64, top: u64) -> u64
+    requires { (sound 0 (said node) ≡ true) × (j ≤ s.count node.slot)
+        × (1 ≤ (kid_after node.pool.now (kid node.number 0 (suc top)) j).upto) }
+    ensures { (lo : ℕ) → suc result ≡ (kid_after node.entry.pool.now (kid node.entry.number lo (suc top)) j).upto }
 {
     if count(node.slot) <= j {
         return top;

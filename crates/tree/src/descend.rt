@@ -78,9 +78,9 @@ pub fn descend(pool: &[u64], key: u64) -> Result<Seat, Fault>
             });
         }
         parent = number;
-        number = child(&node, seen.after);
-        from = first_key(&node, seen.after, from);
-        top = last_key(&node, seen.after, top);
+        number = child(node, seen.after);
+        from = first_key(node, seen.after, from);
+        top = last_key(node, seen.after, top);
         left -= 1;
     }
 }

@@ -89,9 +89,9 @@ fn links_to(pool: &[u64], earlier: u64, k: u64) -> bool
 }
 
 // A leaf that has just been marked, and the keys that it covers.
-fn check_leaf(leaf: &Node<'_>, cover: Cover, seen: Seen) -> Result<Seen, Fault>
-    requires { Leaf leaf.now.pool.now seen }
-    ensures { result ≡ leaf_walk leaf.now.pool.now (k.kid leaf.now.number cover.lo (end_of cover)) seen }
+fn check_leaf(leaf: Node<'_>, cover: Cover, seen: Seen) -> Result<Seen, Fault>
+    requires { Leaf leaf.pool.now seen }
+    ensures { result ≡ leaf_walk leaf.entry.pool.now (k.kid leaf.entry.number cover.lo (end_of cover)) seen }
 {
     if !leaf.fits(Kid::LEAF_LEAST, cover) {
         return Err(Fault { node: leaf.number });
@@ -122,7 +122,7 @@ fn check_node(
     }
     let node = Node::at(pool, kid.number);
     if levels == 0 {
-        return check_leaf(&node, kid.cover, seen);
+        return check_leaf(node, kid.cover, seen);
     }
     if !node.fits(kid.least, kid.cover) {
         return Err(Fault { node: kid.number });
