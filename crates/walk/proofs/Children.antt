@@ -13,10 +13,9 @@ use Rattle.node.specs.View.{Record, view, key_at, value_at}
 use Rattle.node.specs.inner.Looked.{end_of}
 use Rattle.node.proofs.Views.{view_length}
 use Rattle.tree.specs.declared.descend.Fault.{Fault}
-use Rattle.tree.specs.inner.Descended.{Named}
 use Rattle.tree.specs.Kids as k
 use Rattle.tree.specs.Check as t
-use Rattle.tree.proofs.Kids.{named_at}
+use Rattle.tree.proofs.Kids.{Named, named_at}
 use Rattle.walk.specs.declared.walking.Kid.{Kid}
 use Rattle.walk.specs.declared.walking.Seen.{Seen}
 use Rattle.walk.specs.inner.Checking.{kid_of, seen_with, Ready, Walks}

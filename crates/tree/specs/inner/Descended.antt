@@ -4,16 +4,13 @@ use Rattle.words.specs.Event.{at}
 use Rattle.node.specs.Lists.{has, all_below}
 use Rattle.node.specs.Slot.{count, names, entries}
 use Rattle.node.specs.View.{view, keys, rank, slot_at}
-use Rattle.node.specs.inner.Looked.{Inside}
 use Rattle.tree.specs.declared.descend.Seat.{Seat}
 use Rattle.tree.specs.declared.descend.Fault.{Fault}
 use Rattle.tree.specs.Kids.{Kid, kids}
 use Rattle.tree.specs.Path.{Way, failed, leaf, levels_above, way_to}
 
--- node k, whose slot word is w, lies inside the memory, and so does each entry that it names
-pub record Named (m : List ℕ) (k w : ℕ) : Type 0 where
-  pub inside : Inside m k
-  pub word : w ≡ at m (slot_at k)
+-- slot word w names entries, and no more than a node has
+pub record Names (w : ℕ) : Type 0 where
   pub few : count w ≤ entries
   pub low : all_below entries (names w) ≡ true
 

@@ -13,7 +13,7 @@ use Rattle.node.specs.inner.Said.{said}
 use Rattle.node.proofs.Views.{good_sound}
 use Rattle.tree.specs.Header.{used_of, counts_agree}
 use Rattle.tree.proofs.Form.{form, counts}
-use Rattle.tree.proofs.Kids.{few_before}
+use Rattle.tree.proofs.Kids.{sound_names, few_before}
 use Rattle.tree.proofs.Ways.{inside, bad_header, at_root, bad_number, bad_node, too_high, leaf_is, good_node}
 use Rattle.tree.proofs.Ways.{some_covered, go_down}
 use Rattle.tree.proofs.descend.descend.Goals as goal
@@ -96,17 +96,17 @@ few : (c : In-Some) → c.in-Some.seen.after ≤ count c.at-node.result.slot
 few c = few_before _ _ c.in-Some.ensures c.at-node.result.slot_is
 
 pub child-number-requires : goal.child-number-requires
-child-number-requires c = let k = goal.at.child-number-requires c in (sound_is k.Else-top-seen, few k.In-Some)
+child-number-requires c = let k = goal.at.child-number-requires c in (sound_names c.at-node.result (sound_is k.Else-top-seen), few k.In-Some)
 
 pub first_key-from-requires : goal.first_key-from-requires
-first_key-from-requires c = let k = goal.at.first_key-from-requires c in (sound_is k.Else-top-seen, few k.In-Some)
+first_key-from-requires c = let k = goal.at.first_key-from-requires c in (sound_names c.at-node.result (sound_is k.Else-top-seen), few k.In-Some)
 
 pub last_key-top-requires : goal.last_key-top-requires
 last_key-top-requires c =
     let k = goal.at.last_key-top-requires c in
     let e = c.at-node.ensures in
     let some = some_covered _ _ c.loop-key.invariant (used k.Else-not-in_use) (seen_is k.In-Some) c.if-top-seen.false in
-    (sound_is k.Else-top-seen, few k.In-Some, rw (e.pool, e.number) some)
+    (sound_names c.at-node.result (sound_is k.Else-top-seen), few k.In-Some, rw (e.pool, e.number) some)
 
 pub overflow_sub-left-in-loop-key : goal.overflow_sub-left-in-loop-key
 overflow_sub-left-in-loop-key c = let h = c.if-left-eq0.false in omega arith

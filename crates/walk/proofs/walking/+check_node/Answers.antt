@@ -6,9 +6,8 @@ use native.Mathlib.Omega.{arith}
 use Rattle.std.proofs.lemmas.Result.{err_from_is_err_and}
 use Rattle.node.proofs.Views.{good_parts, good_sound}
 use Rattle.node.specs.View.{view}
-use Rattle.tree.specs.inner.Descended.{Named}
 use Rattle.tree.specs.Kids as k
-use Rattle.tree.proofs.Kids.{sound_named, name_low}
+use Rattle.tree.proofs.Kids.{Named, sound_names, names_named, name_low}
 use Rattle.walk.specs.inner.Checking.{kid_of}
 use Rattle.walk.proofs.Walks as w
 use Rattle.walk.proofs.Children as ch
@@ -39,7 +38,7 @@ fits c = rw (c.at-node.ensures.pool, c.at-node.ensures.number) at c.fits.ensures
 named : {t : ℕ} (c : Else-not-fits t) → Named c.args.pool.now c.args.kid.number c.at-node.result.slot
 named c =
     let good = good_sound _ (good_parts (sym c.fits.ensures ∙ c.if-not-fits.false)) in
-    rw (c.at-node.ensures.pool, c.at-node.ensures.number) at (sound_named c.at-node.result good)
+    rw (c.at-node.ensures.pool, c.at-node.ensures.number) at (names_named c.at-node.result (sound_names c.at-node.result good))
 
 pub returns-then-not-fits : goal.returns-then-not-fits
 returns-then-not-fits t c =
