@@ -60,24 +60,24 @@ impl<'a> Node<'a> {
     }
 
     // Its word 1.
-    pub fn link(&self) -> u64
-        ensures { result ≡ at self.now.pool.now (v.link_at self.now.number) }
+    pub fn link(self) -> u64
+        ensures { result ≡ at self.entry.pool.now (v.link_at self.entry.number) }
     {
         link(self.pool, self.number)
     }
 
     // The key of entry e.
-    pub fn key(&self, e: u64) -> u64
+    pub fn key(self, e: u64) -> u64
         requires { e < s.entries }
-        ensures { result ≡ at self.now.pool.now (v.key_at self.now.number e) }
+        ensures { result ≡ at self.entry.pool.now (v.key_at self.entry.number e) }
     {
-        record_key(self.pool, self.number, e)
+        self.pool[Node::key_at(self.number, e) as usize]
     }
 
     // The value or the child of entry e.
-    pub fn value(&self, e: u64) -> u64
+    pub fn value(self, e: u64) -> u64
         requires { e < s.entries }
-        ensures { result ≡ at self.now.pool.now (v.value_at self.now.number e) }
+        ensures { result ≡ at self.entry.pool.now (v.value_at self.entry.number e) }
     {
         record_value(self.pool, self.number, e)
     }

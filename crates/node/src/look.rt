@@ -30,8 +30,8 @@ fn ends(cover: Cover, j: u64, last: u64) -> bool
 impl Node<'_> {
     // The node looked at for a key: nothing of one that is not good, which is left at the first fault. Names whose keys rise are all
     // different.
-    pub fn look(&self, least: u64, from: u64, key: u64) -> Option<Look>
-        ensures { Looked least from key (said self.now) result }
+    pub fn look(self, least: u64, from: u64, key: u64) -> Option<Look>
+        ensures { Looked least from key (said self.entry) result }
     {
         let n = count(self.slot);
         if n == 0 {
@@ -63,8 +63,8 @@ impl Node<'_> {
     }
 
     // Whether the node is good. The key that it is looked at for plays no part.
-    pub fn fits(&self, least: u64, cover: Cover) -> bool
-        ensures { result ≡ v.good least cover.lo (end_of cover) (said self.now) }
+    pub fn fits(self, least: u64, cover: Cover) -> bool
+        ensures { result ≡ v.good least cover.lo (end_of cover) (said self.entry) }
     {
         match self.look(least, cover.lo, 0) {
             None => false,
@@ -73,10 +73,10 @@ impl Node<'_> {
     }
 
     // Where a key stands in the node, which is sound and of whose keys so many are not above it: at the last of them, or after it.
-    pub fn place(&self, after: u64, key: u64) -> Place
-        requires sound { v.sound 0 (said self.now) ≡ true }
-        requires after_value { after ≡ upto key (v.keys (said self.now).records) }
-        ensures { Placed key (said self.now) result }
+    pub fn place(self, after: u64, key: u64) -> Place
+        requires sound { v.sound 0 (said self) ≡ true }
+        requires after_value { after ≡ upto key (v.keys (said self).records) }
+        ensures { Placed key (said self.entry) result }
     {
         if after == 0 {
             return Place {

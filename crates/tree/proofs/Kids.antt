@@ -9,7 +9,7 @@ use lib.Dec.{ltb}
 use borrow.Author.Tests.{ltb-true, ltb-false}
 use Rattle.std.specs.Prelude.{if◌then◌else◌}
 use Rattle.words.specs.Event.{at}
-use Rattle.node.specs.Lists.{upto}
+use Rattle.node.specs.Lists.{all_below, upto}
 use Rattle.node.specs.Slot.{count, names, entries}
 use Rattle.node.specs.View.{Record, view, sound, keys, entry, slot_at, link_at, key_at, value_at}
 use Rattle.node.proofs.Every.{below_at}
@@ -21,7 +21,7 @@ use Rattle.node.specs.declared.cover.Look.{Look}
 use Rattle.node.proofs.Ranks.{upto_length}
 use Rattle.node.proofs.Views.{Good, sound_parts, view_length, view_names, record_at, keys_many}
 use Rattle.tree.specs.Kids.{Kid, kid, kids_from, pick_from, pick}
-use Rattle.tree.specs.inner.Descended.{Named, kid_after}
+use Rattle.tree.specs.inner.Descended.{Names, kid_after}
 
 module _ (lo hi : ℕ) (d : Kid) where
   first_number : (l : ℕ) (rs : List Record) → (get_or (kids_from l lo hi rs) 0 d).number ≡ l
@@ -53,6 +53,16 @@ module _ (hi : ℕ) (d : Kid) (z : Record) where
   inner_upto l lo i [] h = absurd (omega arith)
   inner_upto l lo zero (r ∷ rs) h = refl
   inner_upto l lo (suc i) (r ∷ rs) h = inner_upto r.1 r.0 i rs (omega arith)
+
+-- node k, whose slot word is w, lies inside the memory, and so does each entry that it names
+pub record Named (m : List ℕ) (k w : ℕ) : Type 0 where
+  pub inside : Inside m k
+  pub word : w ≡ at m (slot_at k)
+  pub few : count w ≤ entries
+  pub low : all_below entries (names w) ≡ true
+
+pub names_named : (n : Node) → Names n.slot → Named n.pool.now n.number n.slot
+names_named n s = record { inside = n.inside; word = n.slot_is; few = s.few; low = s.low }
 
 -- a node's names are those of entries, and each has its record
 module _ (m : List ℕ) (k w : ℕ) (n : Named m k w) where
@@ -122,13 +132,11 @@ pick_is key hi d l lo (r ∷ rs) = go (ltb key r.0) (pick_is key hi d r.1 r.0 rs
     go false further = further
 
 -- what looking at a good node tells of its children
-pub sound_named : (n : Node) → sound 0 (said n) ≡ true → Named n.pool.now n.number n.slot
-sound_named n t =
+pub sound_names : (n : Node) → sound 0 (said n) ≡ true → Names n.slot
+sound_names n t =
     let p = sound_parts (said n) t in
     let ns = view_names n.pool.now n.number in
     record {
-      inside = n.inside;
-      word = n.slot_is;
       few = rw (n.slot_is, ← length_names (at n.pool.now (slot_at n.number)), ← ns) p.0;
       low = rw (n.slot_is, ← ns) p.1;
     }

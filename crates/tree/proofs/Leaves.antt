@@ -18,10 +18,10 @@ use Rattle.tree.specs.Header.{used_of, form_agrees}
 use Rattle.tree.specs.Kids.{Kid, pick, root_kid, leaf_least, inner_least, fits}
 use Rattle.tree.specs.Path.{Way, leaf, parent, way, levels_above}
 use Rattle.tree.specs.Map.{find}
-use Rattle.tree.specs.inner.Descended.{Named, Seated}
+use Rattle.tree.specs.inner.Descended.{Seated}
 use Rattle.tree.proofs.Find.{find_present}
 use Rattle.tree.proofs.Path.{Passed, passed, way_to_counts, way_to_down}
-use Rattle.tree.proofs.Kids.{named_at, good_named}
+use Rattle.tree.proofs.Kids.{Named, named_at, good_named}
 use Rattle.tree.proofs.Ways.{inside}
 
 -- node k is in use, and good under some cover

@@ -5,23 +5,24 @@ use mathlib.Core.List.{List, [], ◌∷◌}
 use mathlib.Core.Bool.{true, false}
 use native.Mathlib.Omega.{arith}
 use lib.ListN.{length}
-use lib.Dec.{ltb}
-use mir.Val.{bool_byte}
-use borrow.Author.Tests.{lt-ltb, le-leb, lt-leb}
-use Rattle.std.specs.Prelude.{None}
+use borrow.Author.Tests.{le-leb}
+use Rattle.std.specs.Prelude.{Err}
 use Rattle.words.specs.Tests.{within}
-use Rattle.words.specs.Event.{at}
 use Rattle.words.proofs.Tests.{within_says}
-use Rattle.node.specs.View.{view, good, slot_at, no_end}
-use Rattle.node.specs.inner.Looked.{Inside, Looked, LookedGood, Placed}
+use Rattle.node.specs.View.{view, good, no_end}
+use Rattle.node.specs.inner.Looked.{Inside, Placed}
 use Rattle.node.specs.declared.cover.Look.{Look}
 use Rattle.node.specs.declared.cover.Place.{Place}
+use Rattle.node.specs.declared.layout.Node.{Node}
+use Rattle.tree.specs.declared.descend.Step.{Step}
+use Rattle.tree.specs.declared.descend.Fault.{Fault}
+use mathlib.Core.Logic.{inl, inr}
 use Rattle.node.proofs.Views.{Good, good_parts}
 use Rattle.node.proofs.Ends.{kept}
 use Rattle.tree.specs.Header.{used_of, root_of, capacity_of, counts_agree, form_agrees}
-use Rattle.tree.specs.Kids.{Kid, kid, pick}
+use Rattle.tree.specs.Kids.{Kid, kid, pick, leaf_least, inner_least}
 use Rattle.tree.specs.Path.{failed, leaf, parent, way, levels_above, way_to}
-use Rattle.tree.specs.inner.Descended.{Seated, kid_after}
+use Rattle.tree.specs.inner.Descended.{Seated, Child, MetGood, Met, kid_after}
 use Rattle.tree.proofs.Form.{Form, Counts, form, counts}
 use Rattle.tree.proofs.Kids.{picked, pick_covers}
 
@@ -39,12 +40,17 @@ inside m f c k t =
     }
 
 -- the way down to a key goes on from a node that covers it, with some levels left below it
-pub record On (m : List ℕ) (key node left over from top : ℕ) : Type 0 where
+pub record On (m : List ℕ) (key left : ℕ) (s : Step) : Type 0 where
   pub up : List ℕ
-  pub nearest : over ≡ parent up
-  pub low : from ≤ key
-  pub high : key ≤ top
-  pub rest : way_to m key ≡ way left m key (kid node from (suc top)) up
+  pub nearest : s.parent ≡ parent up
+  pub low : s.from ≤ key
+  pub high : key ≤ s.top
+  pub rest : way_to m key ≡ way left m key (kid s.node s.from (suc s.top)) up
+
+-- the least entries that a node may have with so many levels below it
+abbrev least_of : ℕ → ℕ
+least_of zero = leaf_least
+least_of (suc n) = inner_least
 
 -- one level of the way
 module _ (m : List ℕ) (key : ℕ) (c : Kid) (up : List ℕ) where
@@ -54,25 +60,19 @@ module _ (m : List ℕ) (key : ℕ) (c : Kid) (up : List ℕ) where
   out_of_use (suc n) t = rw t
 
   module _ (used : within 1 c.number (used_of m) ≡ true) where
-    not_fitting : (n : ℕ) → good (bool_byte (ltb 0 n)) c.from c.upto (view m c.number) ≡ false
-        → way n m key c up ≡ failed c.number
+    not_fitting : (n : ℕ) → good (least_of n) c.from c.upto (view m c.number) ≡ false → way n m key c up ≡ failed c.number
     unfolding way
     not_fitting zero t = rw (used, t)
-    not_fitting (suc n) t = rw (used, rw (lt-ltb 0 (suc n) (omega arith)) at t)
+    not_fitting (suc n) t = rw (used, t)
 
-    fitting_leaf : (n : ℕ) → n ≡ 0 → good (bool_byte (ltb 0 n)) c.from c.upto (view m c.number) ≡ true
-        → way n m key c up ≡ leaf c.number up
+    fitting_leaf : good leaf_least c.from c.upto (view m c.number) ≡ true → way 0 m key c up ≡ leaf c.number up
     unfolding way
-    fitting_leaf zero e t = rw (used, t)
-    fitting_leaf (suc n) e t = absurd (omega arith)
+    fitting_leaf t = rw (used, t)
 
-    fitting_inner : (n : ℕ) → (n ≡ 0 → ⊥) → good (bool_byte (ltb 0 n)) c.from c.upto (view m c.number) ≡ true
-        → way n m key c up ≡ way (n - 1) m key (pick key c (view m c.number)) (c.number ∷ up)
+    fitting_inner : (n : ℕ) → good inner_least c.from c.upto (view m c.number) ≡ true
+        → way (suc n) m key c up ≡ way n m key (pick key c (view m c.number)) (c.number ∷ up)
     unfolding way
-    fitting_inner zero e t = absurd (e refl)
-    fitting_inner (suc n) e t =
-        let less : suc n - 1 ≡ n = omega arith in
-        rw (used, rw (lt-ltb 0 (suc n) (omega arith)) at t, less)
+    fitting_inner n t = rw (used, t)
 
 module _ (m : List ℕ) (key : ℕ) where
   pub bad_header : counts_agree m ≡ false → way_to m key ≡ failed 0
@@ -80,7 +80,8 @@ module _ (m : List ℕ) (key : ℕ) where
   bad_header t = rw t
 
   -- the root has no ends
-  pub at_root : key < no_end → counts_agree m ≡ true → On m key (root_of m) (levels_above m) 0 0 (no_end - 1)
+  pub at_root : key < no_end → counts_agree m ≡ true
+      → On m key (levels_above m) (record { node = root_of m; parent = 0; from = 0; top = no_end - 1 })
   unfolding way_to
   at_root h t = record {
     up = [];
@@ -90,59 +91,55 @@ module _ (m : List ℕ) (key : ℕ) where
     rest = rw t refl;
   }
 
-  module _ {node left over from top : ℕ} (o : On m key node left over from top) where
+  -- the way ends where a node is at fault
+  pub ends_at : {left : ℕ} {s : Step} → On m key left s → {f : Fault} → Met m s (least_of left) key (Err f) → way_to m key ≡ failed f.node
+  ends_at {left} {s} o {f} (inl p) =
+      o.rest ∙ out_of_use m key (kid s.node s.from (suc s.top)) o.up left p.0 ∙ ap failed (sym (p.1 ∙ o.nearest))
+  ends_at {left} {s} o {f} (inr p) =
+      o.rest ∙ not_fitting m key (kid s.node s.from (suc s.top)) o.up p.0 left p.1 ∙ ap failed (sym p.2)
+
+  module _ {left least : ℕ} {s : Step} (o : On m key left s) {n : Node} {seen : Look} (g : MetGood m s least key n seen) where
     abbrev here : Kid
-    here = kid node from (suc top)
+    here = kid s.node s.from (suc s.top)
 
-    pub bad_number : within 1 node (used_of m) ≡ false → way_to m key ≡ failed over
-    bad_number t = o.rest ∙ out_of_use m key here o.up left t ∙ ap failed (sym o.nearest)
+    fitting : good least s.from (suc s.top) (view m s.node) ≡ true
+    fitting = kept g.seen_is s.top (omega (arith, o.low, o.high)) ∙ le-leb seen.last s.top g.last_in
 
-    module _ (used : within 1 node (used_of m) ≡ true) where
-      fault : good (bool_byte (ltb 0 left)) from (suc top) (view m node) ≡ false → way_to m key ≡ failed node
-      fault f = o.rest ∙ not_fitting m key here o.up used left f
+    pub good_node : Good least s.from (suc s.top) (view m s.node)
+    good_node = good_parts fitting
 
-      pub bad_node : Looked (bool_byte (ltb 0 left)) from key (view m node) None → way_to m key ≡ failed node
-      bad_node f = fault (f (suc top))
+  pub leaf_is : {s : Step} → On m key 0 s → {n : Node} {seen : Look} → MetGood m s leaf_least key n seen
+      → {r : Place} → Placed key (view m s.node) r
+      → Seated m key (record { leaf = n.number; slot = n.slot; rank = r.rank; there = r.there })
+  leaf_is {s} o {n} g r =
+      let e : way_to m key ≡ leaf s.node o.up = o.rest ∙ fitting_leaf m key (kid s.node s.from (suc s.top)) o.up g.in_use (fitting o g) in
+      record {
+        way_is = rw (g.number_is, e);
+        slot_is = n.slot_is ∙ rw (g.pool_is, g.number_is);
+        rank_is = rw g.number_is r.rank_is;
+        there_is = rw g.number_is r.there_is;
+      }
 
-      covers_some : from ≤ top
-      covers_some = omega (arith, o.low, o.high)
+  -- the child that covers the key
+  module _ {left : ℕ} {s : Step} (o : On m key (suc left) s) {n : Node} {seen : Look} (g : MetGood m s inner_least key n seen) where
+    pub some_covered : 1 ≤ (kid_after m (kid s.node 0 (suc s.top)) seen.after).upto
+    some_covered =
+        let u = view m s.node in
+        let c = pick_covers key u.link 0 (suc s.top) u.records (omega arith) (omega (arith, o.high)) in
+        rw (picked m s.node g.seen_is 0 (suc s.top)) (omega (arith, c.1))
 
-      module _ {seen : Look} (l : LookedGood (bool_byte (ltb 0 left)) from key (view m node) seen) where
-        pub too_high : top < seen.last → way_to m key ≡ failed node
-        too_high h = fault (kept l top covers_some ∙ lt-leb seen.last top h)
-
-        module _ (h : seen.last ≤ top) where
-          fitting : good (bool_byte (ltb 0 left)) from (suc top) (view m node) ≡ true
-          fitting = kept l top covers_some ∙ le-leb seen.last top h
-
-          pub good_node : Good (bool_byte (ltb 0 left)) from (suc top) (view m node)
-          good_node = good_parts fitting
-
-          pub leaf_is : left ≡ 0 → {w : ℕ} → w ≡ at m (slot_at node) → {r : Place} → Placed key (view m node) r
-              → Seated m key (record { leaf = node; slot = w; rank = r.rank; there = r.there })
-          leaf_is z w r =
-              let e : way_to m key ≡ leaf node o.up = o.rest ∙ fitting_leaf m key here o.up used left z fitting in
-              record { way_is = rw e; slot_is = w; rank_is = r.rank_is; there_is = r.there_is }
-
-          -- the child that covers the key
-          pub some_covered : 1 ≤ (kid_after m (kid node 0 (suc top)) seen.after).upto
-          some_covered =
-              let u = view m node in
-              let c = pick_covers key u.link 0 (suc top) u.records (omega arith) (omega (arith, o.high)) in
-              rw (picked m node l 0 (suc top)) (omega (arith, c.1))
-
-          pub go_down : (left ≡ 0 → ⊥) → {k x y : ℕ} → k ≡ (kid_after m here seen.after).number
-              → x ≡ (kid_after m here seen.after).from → suc y ≡ (kid_after m here seen.after).upto
-              → On m key k (left - 1) node x y
-          go_down z {k = k} {x = x} {y = y} n a b =
-              let u = view m node in
-              let is : pick key here u ≡ kid k x (suc y) = sym (picked m node l from (suc top)) ∙ rw (n, a, b) refl in
-              let c = rw is at (pick_covers key u.link from (suc top) u.records o.low (omega (arith, o.high))) in
-              record {
-                up = node ∷ o.up;
-                nearest = refl;
-                low = c.0;
-                high = omega (arith, c.1);
-                rest = o.rest ∙ fitting_inner m key here o.up used left z fitting
-                    ∙ ap (λ (d : Kid). way (left - 1) m key d (node ∷ o.up)) is;
-              }
+    pub go_down : {r : Step} → Child m (kid s.node s.from (suc s.top)) seen.after r → On m key left r
+    go_down {r} h =
+        let u = view m s.node in
+        let c = kid s.node s.from (suc s.top) in
+        let is : pick key c u ≡ kid r.node r.from (suc r.top) =
+        sym (picked m s.node g.seen_is s.from (suc s.top)) ∙ rw (h.node_is, h.from_is, h.top_is) refl in
+        let covers = rw is at (pick_covers key u.link s.from (suc s.top) u.records o.low (omega (arith, o.high))) in
+        record {
+          up = s.node ∷ o.up;
+          nearest = h.parent_is;
+          low = covers.0;
+          high = omega (arith, covers.1);
+          rest = o.rest ∙ fitting_inner m key c o.up g.in_use left (fitting o g)
+              ∙ ap (λ (d : Kid). way left m key d (s.node ∷ o.up)) is;
+        }

@@ -1,13 +1,15 @@
 // The way down from the root to the leaf of a key, each node on it looked at once: all of refusal 4 but its last case.
-ghost use Rattle.std.specs.Prelude.{◌≡◌, true};
+ghost use Rattle.std.specs.Prelude.{◌≡◌, ◌≤◌, suc, true};
 ghost use Rattle.words.specs.Tests.{within};
 ghost use Rattle.words.specs.declared.refusal.Refusal.TheVariants.{Damaged};
-ghost use Rattle.tree.specs.Header.{form_agrees};
-ghost use Rattle.tree.specs.inner.Descended.{Descended};
+ghost use Rattle.node.specs.Slot as s;
+ghost use Rattle.tree.specs.Header.{form_agrees, counts_agree};
+ghost use Rattle.tree.specs.Kids.{kid};
+ghost use Rattle.tree.specs.inner.Descended.{Names, kid_after, Met, Child, Descended};
 
 use crate::child::{child, first_key, last_key};
 use crate::header::counts_agree;
-use node::Node;
+use node::{Look, Node};
 use words::{Pool, Refusal};
 
 // The leaf of a key, its slot word, the rank of the key in it, and whether the key is there.
@@ -43,7 +45,50 @@ fn in_use(used: u64, node: u64) -> bool
     (1..=used).contains(&node)
 }
 
-// The way down to the leaf of a key. Each node covers the keys `from` to `top`, both among them, and the key is one of these.
+// A node on the way down: its number and its parent's, 0 for none, and the keys that it covers, both ends among them.
+#[derive(Clone, Copy)]
+pub struct Step {
+    pub node: u64,
+    pub parent: u64,
+    pub from: u64,
+    pub top: u64,
+}
+
+impl Step {
+    // The node looked at for a key, if nothing is wrong with it.
+    #[inline(always)]
+    fn meet(self, pool: &[u64], least: u64, key: u64) -> Result<(Node<'_>, Look), Fault>
+        requires { (form_agrees pool.now ≡ true) × (counts_agree pool.now ≡ true) × (self.from ≤ self.top) }
+        ensures { Met pool.now self least key result }
+    {
+        if !in_use(pool[Pool::USED_AT as usize], self.node) {
+            return Err(Fault { node: self.parent });
+        }
+        let node = Node::at(pool, self.node);
+        let fault = Fault { node: self.node };
+        let seen = node.look(least, self.from, key).ok_or(fault)?;
+        if self.top < seen.last {
+            return Err(fault);
+        }
+        Ok((node, seen))
+    }
+
+    // The child that has so many keys before it.
+    fn down(self, node: Node<'_>, after: u64) -> Step
+        requires { Names node.slot × (after ≤ s.count node.slot)
+            × (1 ≤ (kid_after node.pool.now (kid node.number 0 (suc self.top)) after).upto) }
+        ensures { Child node.entry.pool.now (kid node.entry.number self.from (suc self.top)) after result }
+    {
+        Step {
+            node: child(node, after),
+            parent: node.number,
+            from: first_key(node, after, self.from),
+            top: last_key(node, after, self.top),
+        }
+    }
+}
+
+// The way down to the leaf of a key, which each node on it covers.
 pub fn descend(pool: &[u64], key: u64) -> Result<Seat, Fault>
     requires { form_agrees pool.now ≡ true }
     ensures { Descended pool.now key result }
@@ -51,36 +96,22 @@ pub fn descend(pool: &[u64], key: u64) -> Result<Seat, Fault>
     if !counts_agree(pool) {
         return Err(Fault { node: 0 });
     }
-    let used = pool[Pool::USED_AT as usize];
-    let mut number = pool[Pool::ROOT_AT as usize];
-    let mut left = pool[Pool::HEIGHT_AT as usize] - 1;
-    let mut parent: u64 = 0;
-    let mut from: u64 = 0;
-    let mut top = GREATEST;
-    loop {
-        if !in_use(used, number) {
-            return Err(Fault { node: parent });
-        }
-        let node = Node::at(pool, number);
-        let Some(seen) = node.look((0 < left) as u64, from, key) else {
-            return Err(Fault { node: number });
-        };
-        if top < seen.last {
-            return Err(Fault { node: number });
-        }
-        if left == 0 {
-            let at = node.place(seen.after, key);
-            return Ok(Seat {
-                leaf: number,
-                slot: node.slot,
-                rank: at.rank,
-                there: at.there,
-            });
-        }
-        parent = number;
-        number = child(&node, seen.after);
-        from = first_key(&node, seen.after, from);
-        top = last_key(&node, seen.after, top);
-        left -= 1;
+    let mut step = Step {
+        node: pool[Pool::ROOT_AT as usize],
+        parent: 0,
+        from: 0,
+        top: GREATEST,
+    };
+    for _ in (1..pool[Pool::HEIGHT_AT as usize]).rev() {
+        let (node, seen) = step.meet(pool, 1, key)?;
+        step = step.down(node, seen.after);
     }
+    let (leaf, seen) = step.meet(pool, 0, key)?;
+    let at = leaf.place(seen.after, key);
+    Ok(Seat {
+        leaf: leaf.number,
+        slot: leaf.slot,
+        rank: at.rank,
+        there: at.there,
+    })
 }

@@ -18,7 +18,7 @@ pub fn path_to(pool: &[u64], key: u64) -> [u64; 8]
         path[left as usize] = number;
         let node = Node::at(pool, number);
         let seen = node.look(0, 0, key).unwrap();
-        number = child(&node, seen.after);
+        number = child(node, seen.after);
     }
     path[0] = number;
     path

@@ -2,7 +2,7 @@
 use native.Mathlib.Omega.{arith}
 use Rattle.node.proofs.Views.{good_sound}
 use Rattle.tree.proofs.Form.{form}
-use Rattle.tree.proofs.Kids.{few_before}
+use Rattle.tree.proofs.Kids.{sound_names, few_before}
 use Rattle.tree.proofs.Paths.{at_root, leaf_last, good_here, lies_inside, found_good, go_down}
 use Rattle.tree.proofs.pathing.path_to.Goals as goal
 
@@ -34,7 +34,7 @@ child-number-requires c =
     let e = c.at-node.ensures in
     let o = c.loop-left.invariant c.requires.1 in
     let seen = rw c.unwrap-seen.ensures at c.look.ensures in (
-      rw (e.pool, e.number) (good_sound _ (good_here _ _ _ o (omega arith))),
+      sound_names c.at-node.result (rw (e.pool, e.number) (good_sound _ (good_here _ _ _ o (omega arith)))),
       few_before _ _ seen c.at-node.result.slot_is,
     )
 

@@ -7,4 +7,4 @@ pub returns : goal.returns
 returns c =
     let good = sym c.fits.ensures ∙ c.if-not-fits.false in
     let linked = sym c.links_to.ensures ∙ c.if-not-links_to.false in
-    simp (good, linked, c.count.ensures, c.args.leaf.now.slot_is, view_length)
+    simp (good, linked, c.count.ensures, c.args.leaf.slot_is, view_length)

@@ -6,5 +6,5 @@ use Rattle.node.proofs.layout.Node.fits.Goals as goal
 
 pub returns-in-Some : goal.returns-in-Some
 returns-in-Some c =
-    let many = view_length c.args.self.now.pool.now c.args.self.now.number ∙ ap count (sym c.args.self.now.slot_is) in
+    let many = view_length c.args.self.pool.now c.args.self.number ∙ ap count (sym c.args.self.slot_is) in
     c.ends.ensures ∙ rw (c.count.ensures, ← many) (sym (c.in-Some.ensures.good_is _))

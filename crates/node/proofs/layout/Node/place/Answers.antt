@@ -53,24 +53,24 @@ name-requires c =
     let a = c.args in
     let r = c.requires in
     let z = c.if-after-eq0.false in
-    (last_named a.self.now a.after a.key r.sound r.after_value z, few a.self.now a.after a.key r.sound r.after_value z)
+    (last_named a.self a.after a.key r.sound r.after_value z, few a.self a.after a.key r.sound r.after_value z)
 
 pub key-requires : goal.key-requires
 key-requires c =
     let a = c.args in
     let r = c.requires in
-    low a.self.now a.after a.key r.sound r.after_value c.if-after-eq0.false c.name.ensures
+    low a.self a.after a.key r.sound r.after_value c.if-after-eq0.false c.name.ensures
 
 pub overflow_sub-result : goal.overflow_sub-result
 overflow_sub-result c =
     let a = c.args in
     let r = c.requires in
-    let p = placed a.self.now a.after a.key r.sound r.after_value c.if-after-eq0.false c.name.ensures c.key.ensures in
+    let p = placed a.self a.after a.key r.sound r.after_value c.if-after-eq0.false c.name.ensures c.key.ensures in
     rw p.0 (omega (arith, p.1))
 
 pub returns : goal.returns
 returns c =
     let a = c.args in
     let r = c.requires in
-    let p = placed a.self.now a.after a.key r.sound r.after_value c.if-after-eq0.false c.name.ensures c.key.ensures in
+    let p = placed a.self a.after a.key r.sound r.after_value c.if-after-eq0.false c.name.ensures c.key.ensures in
     record { rank_is = rw p.0 (omega (arith, p.1)); there_is = p.0 }
