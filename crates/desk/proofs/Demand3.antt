@@ -17,7 +17,6 @@ use Rattle.words.specs.declared.refusal.Refusal.{Refusal}
 use Rattle.words.proofs.Loss.{settled_safe}
 use Rattle.change.specs.Gate.{outcome_of}
 use Rattle.change.specs.declared.Outcome.{Outcome}
-use Rattle.change.proofs.Refused.{outcome_answered}
 use Rattle.change.specs.declared.Request.{Request}
 use Rattle.change.specs.declared.Answer.{Answer}
 use Rattle.change.specs.Calls.{serve_answer}
@@ -33,7 +32,7 @@ use Rattle.desk.proofs.Desks.{accepts_true, accepted_is, length_submit, submit_t
 use Rattle.desk.proofs.Took.{left_by, seen_by, turn_in, Took, nobody_full, one_served, took}
 use Rattle.desk.proofs.Fair.{Fate, waits, comes, fate}
 use Rattle.desk.proofs.Once.{each_once}
-use Rattle.desk.proofs.Promise.{Answers, Kept, Promise, count_is, events_are, pool_is, all_done}
+use Rattle.desk.proofs.Promise.{Answers, Kept, Promise, outcome_answered, count_is, events_are, pool_is, all_done}
 use Rattle.desk.proofs.Ready.{lent, given_first, given_then, sits, ready_submit, kept, ready_turn, ready_after, same_desks}
 
 -- every turn carries out few events

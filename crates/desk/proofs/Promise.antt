@@ -4,7 +4,7 @@ use mathlib.Core.Path.{◌≡◌, refl, ap}
 use mathlib.Core.Logic.{◌⊎◌}
 use mathlib.Core.List.{List, [], ◌∷◌}
 use lib.ListN.{length}
-use Rattle.std.specs.Prelude.{Ok, Err}
+use Rattle.std.specs.Prelude.{Result, Ok, Err}
 use Rattle.words.specs.Pool.{list_words, events_most}
 use Rattle.words.specs.declared.event.Event.{Event}
 use Rattle.words.specs.Event.{run}
@@ -12,9 +12,10 @@ use Rattle.words.specs.Written.{Lists}
 use Rattle.words.specs.Carry.{after_all, AllDone}
 use Rattle.words.specs.Loss.{Safe}
 use Rattle.words.specs.Cuts.{Found}
+use Rattle.words.specs.declared.refusal.Refusal.{Refusal}
 use Rattle.words.specs.declared.refusal.Refusal.TheVariants.{NoRoom}
 use Rattle.change.specs.Rule.{rule}
-use Rattle.change.specs.Gate.{Planned, answered, events_of, list_after}
+use Rattle.change.specs.Gate.{Planned, with_count, answered, outcome_of, events_of, list_after}
 use Rattle.change.specs.declared.Request.{Request}
 use Rattle.change.specs.declared.Outcome.{Outcome}
 use Rattle.change.specs.Calls.{serve_answer, serve_list}
@@ -48,6 +49,14 @@ module _ (P : Pools) where
     pub serves : (m l : List ℕ) (q : Request) → P.WellFormed m → P.Fits q → list_words ≤ length l → Kept m l q
     -- power goes while nothing is carried out
     pub rests : (m : List ℕ) (n : ℕ) (m' : List ℕ) → P.WellFormed m → Found P.recovery m [] n m' → Settled P m [] m n m'
+
+-- the outcome of an answer is that of its plan
+pub outcome_answered : (p : Planned Outcome) → outcome_of (answered p) ≡ p.answer
+outcome_answered p = go p.answer (length p.events)
+  where
+    go : (o : Result Outcome Refusal) (n : ℕ) → outcome_of (with_count o n) ≡ o
+    go (Ok o) n = refl
+    go (Err why) n = refl
 
 -- a list that has these events lists them
 listed_is : (l : List ℕ) (n : ℕ) (es : List Event) → Lists l n es → listed l n (length es) ≡ es

@@ -19,7 +19,6 @@ use Rattle.change.specs.declared.Request.TheVariants.{Put, Fetch, Delete}
 use Rattle.change.specs.declared.Answer.{Answer}
 use Rattle.change.specs.Gate.{outcome_of}
 use Rattle.change.specs.Fetch.{fetch}
-use Rattle.change.proofs.Refused.{outcome_answered}
 use Rattle.change.specs.Answers.{outcome_says}
 use Rattle.change.specs.Calls.{serve_answer, serve_list}
 use Rattle.change.specs.Conditions.{Says, ShortList}
@@ -32,6 +31,7 @@ use Rattle.desk.specs.Answers.{submit_says, turned_says}
 use Rattle.desk.specs.Rows.{our_way}
 use Rattle.desk.specs.Refused as w
 use Rattle.desk.proofs.Choose.{full_range}
+use Rattle.desk.proofs.Promise.{outcome_answered}
 use Rattle.desk.proofs.Served.{by}
 
 -- the desk of a member, by its place
