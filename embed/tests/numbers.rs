@@ -127,7 +127,7 @@ fn kinds_of_desk() {
 fn limits() {
     let header = numbers(&text("embed/c/ombykape.h"), "#define OMBYKAPE_", " ");
     let mut code = numbers(&text("crates/words/src/limits.rt"), "pub const ", ": u64 = ");
-    let most = numbers(&text("crates/desk/src/lent.rt"), "pub const ", ": usize = ")["DESKS_MOST"];
+    let most = numbers(&text("crates/desk/src/lent.rt"), "pub const ", ": usize = ")["MOST"];
     code.insert("MEMBERS_MOST".to_string(), most);
     for name in ["LINE_WORDS", "LIST_WORDS", "CAPACITY_MOST", "MEMBERS_MOST"] {
         assert_eq!(header[name], code[name], "{name}");

@@ -9,8 +9,24 @@ use change::Request;
 // A desk is empty, or holds a request.
 pub type Desk = Option<Request>;
 
-// The desks of a list, at most.
-pub const DESKS_MOST: usize = 16;
+// What is named once of a list of desks.
+#[derive(Drop)]
+pub struct DeskList {}
+
+impl DeskList {
+    pub const FRESH: Desk = None;
+
+    // The desks of a list, at most.
+    pub const MOST: usize = 16;
+}
+
+// The constants are those of the definitions.
+fn named_once() -> Desk
+    ensures fresh { result ≡ d.fresh }
+    ensures most { DeskList.MOST ≡ d.desks_most }
+{
+    DeskList::FRESH
+}
 
 // A desk in the form that a caller lends.
 pub trait Lent: Copy {

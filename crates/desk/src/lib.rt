@@ -9,6 +9,6 @@ mod turning;
 
 pub use answer::{Turn, Turned};
 pub use asking::{Asked, ask};
-pub use lent::{DESKS_MOST, Desk, Lent};
+pub use lent::{Desk, DeskList, Lent};
 pub use submitting::submit;
 pub use turning::{plan_turn, turn};

@@ -4,7 +4,7 @@ ghost use Rattle.desk.specs.Desk.{may_submit};
 ghost use Rattle.desk.specs.Lent.{laid};
 ghost use Rattle.desk.specs.Promises.{SubmitPromise};
 
-use crate::lent::{DESKS_MOST, Lent};
+use crate::lent::{DeskList, Lent};
 use change::Request;
 use words::Refusal;
 
@@ -12,7 +12,7 @@ use words::Refusal;
 fn seat(desks: usize, member: u64) -> Result<usize, Refusal>
     ensures { result ≡ (if may_submit desks member then Ok (member - 1) else Err Refusal.NoDesk) }
 {
-    if DESKS_MOST < desks || member == 0 || (desks as u64) < member {
+    if DeskList::MOST < desks || member == 0 || (desks as u64) < member {
         return Err(Refusal::NoDesk);
     }
     Ok(member as usize - 1)

@@ -9,7 +9,7 @@ ghost use Rattle.desk.specs.inner.Parts.{found, chosen};
 ghost use Rattle.desk.specs.inner.Parts as parts;
 
 use crate::answer::{Turn, Turned};
-use crate::lent::{DESKS_MOST, Lent};
+use crate::lent::{DeskList, Lent};
 use change::{Answer, Request};
 use words::{Pool, Refusal};
 
@@ -35,7 +35,7 @@ fn choose<L: Lent>(
     ensures { result ≡ chosen list.now (L.reads desks.now) last }
 {
     let n = desks.len();
-    if n == 0 || DESKS_MOST < n || (n as u64) < last {
+    if n == 0 || DeskList::MOST < n || (n as u64) < last {
         return Err(Refusal::NoDesk);
     }
     if (list.len() as u64) < Pool::LIST_WORDS {
@@ -86,7 +86,7 @@ pub fn plan_turn<L: Lent>(pool: &[u64], list: &mut [u64], desks: &mut [L], last:
         Ok(None) => return unserved(Ok(Turned::Idle), last),
         Ok(Some(chosen)) => chosen,
     };
-    desks[i] = L::from_desk(None);
+    desks[i] = L::from_desk(DeskList::FRESH);
     served(pool::serve(pool, list, request), i as u64 + 1)
 }
 

@@ -2,7 +2,7 @@
 use crate::failure::Failure;
 use crate::output::Output;
 use change::{Outcome, Request};
-use desk::{Desk, Turned};
+use desk::{Desk, DeskList, Turned};
 use line::{BadLine, Fields, Taker};
 use std::io::Read;
 use words::{Pool, Refusal};
@@ -34,7 +34,7 @@ impl Sitting {
         Sitting {
             pool,
             list,
-            desk: None,
+            desk: DeskList::FRESH,
             last: 0,
             taker: Taker::new(),
             output: Output::new(),

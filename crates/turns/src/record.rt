@@ -1,5 +1,5 @@
 // A desk as it is lent: a kind, a key and a value.
-ghost use Rattle.std.specs.Prelude.{refl};
+ghost use Rattle.std.specs.Prelude.{◌≡◌, refl};
 ghost use Rattle.turns.specs.Desks as d;
 
 use change::Request;
@@ -23,6 +23,14 @@ impl DeskRecord {
 
     pub const DELETE: u64 = 3;
 }
+
+// The constants are the numbers of the definitions.
+fn named_once()
+    ensures nothing { DeskRecord.NOTHING ≡ d.nothing }
+    ensures put { DeskRecord.PUT ≡ d.put }
+    ensures fetch { DeskRecord.FETCH ≡ d.fetch }
+    ensures delete { DeskRecord.DELETE ≡ d.delete }
+{}
 
 impl Lent for DeskRecord {
     ghost says = { d.desk_of };

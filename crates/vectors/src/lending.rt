@@ -3,7 +3,7 @@ ghost use Rattle.std.specs.Prelude.{◌≡◌, ◌≤◌};
 ghost use Rattle.desk.specs.Turn.{submit_desks, turn_desks};
 
 use change::Request;
-use desk::{Desk, Turn};
+use desk::{Desk, DeskList, Turn};
 use std::marker::Model;
 use words::Refusal;
 
@@ -30,7 +30,7 @@ impl Desks {
         requires { lent ≤ 17 }
     {
         Desks {
-            all: [None; 17],
+            all: [DeskList::FRESH; 17],
             lent,
         }
     }

@@ -15,19 +15,19 @@ returns-then-n-eq0 g c =
 pub returns-then-list-lt-LIST_WORDS : goal.returns-then-list-lt-LIST_WORDS
 returns-then-list-lt-LIST_WORDS g c =
     let n = length_reads g.met.L.Lent.reads_each c.args.desks.now in
-    let may = turn_may _ c.args.last (omega arith) c.if-n-gt-DESKS_MOST.false c.if-n-last.false in
+    let may = turn_may _ c.args.last (omega arith) c.if-n-gt-MOST.false c.if-n-last.false in
     one _ _ _ (rw (n, may)) c.if-list-lt-LIST_WORDS.true
 
 pub returns-in-Some : goal.returns-in-Some
 returns-in-Some g c =
     let n = length_reads g.met.L.Lent.reads_each c.args.desks.now in
-    let may = turn_may _ c.args.last (omega arith) c.if-n-gt-DESKS_MOST.false c.if-n-last.false in
+    let may = turn_may _ c.args.last (omega arith) c.if-n-gt-MOST.false c.if-n-last.false in
     from_last _ _ _ (rw (n, may)) c.if-list-lt-LIST_WORDS.false
     (rw n (sym c.first_full.ensures ∙ c.in-Some.is))
 
 pub returns-in-None : goal.returns-in-None
 returns-in-None g c =
     let n = length_reads g.met.L.Lent.reads_each c.args.desks.now in
-    let may = turn_may _ c.args.last (omega arith) c.if-n-gt-DESKS_MOST.false c.if-n-last.false in
+    let may = turn_may _ c.args.last (omega arith) c.if-n-gt-MOST.false c.if-n-last.false in
     from_first _ _ _ (rw (n, may)) c.if-list-lt-LIST_WORDS.false (rw n (sym c.first_full.ensures ∙ c.in-None.is))
     c.first_full-in-None.ensures
