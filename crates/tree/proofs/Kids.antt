@@ -141,6 +141,9 @@ sound_names n t =
       low = rw (n.slot_is, ← ns) p.1;
     }
 
+pub sound_named : (n : Node) → sound 0 (said n) ≡ true → Named n.pool.now n.number n.slot
+sound_named n t = names_named n (sound_names n t)
+
 pub good_named : {m : List ℕ} {k w least lo hi : ℕ} → Good least lo hi (view m k) → Inside m k → w ≡ at m (slot_at k) → Named m k w
 good_named {m} {k} g i w = record {
   inside = i;

@@ -16,7 +16,7 @@ use Rattle.node.proofs.Views.{view_length}
 use Rattle.tree.specs.declared.descend.Fault.{Fault}
 use Rattle.tree.specs.Kids as k
 use Rattle.tree.specs.Check as t
-use Rattle.tree.proofs.Kids.{sound_names, names_named, named_at}
+use Rattle.tree.proofs.Kids.{sound_named, named_at}
 use Rattle.walk.specs.declared.walking.Kid.{Kid}
 use Rattle.walk.specs.declared.walking.Seen.{Seen}
 use Rattle.walk.specs.inner.Checking.{kid_of, kids_left, seen_with, Walks}
@@ -58,7 +58,7 @@ module _ (j : Node) (slot : ℕ) (kid : Kid) where
       {key child : ℕ} (key_is : key ≡ at j.pool.now (key_at j.number e)) (child_is : child ≡ at j.pool.now (value_at j.number e)) where
     splits : drop slot records ≡ (key, child) ∷ drop (slot + 1) records
     splits =
-        let there = named_at j.pool.now j.number j.slot (names_named j (sound_names j good)) slot more e_is in
+        let there = named_at j.pool.now j.number j.slot (sound_named j good) slot more e_is in
         rw (add-one slot) (drop-cons records slot (0, 0) there.0
         ∙ ap (λ (x : Record). x ∷ drop (suc slot) records) (there.1 ∙ rw (← key_is, ← child_is)))
 
