@@ -56,7 +56,6 @@ pub struct Step {
 
 impl Step {
     // The node looked at for a key, if nothing is wrong with it.
-    #[inline(always)]
     fn meet(self, pool: &[u64], least: u64, key: u64) -> Result<(Node<'_>, Look), Fault>
         requires { (form_agrees pool.now ≡ true) × (counts_agree pool.now ≡ true) × (self.from ≤ self.top) }
         ensures { Met pool.now self least key result }
