@@ -5,7 +5,9 @@ use mathlib.Core.List.{List, [], ◌∷◌}
 use mathlib.Core.Bool.{true, false}
 use native.Mathlib.Omega.{arith}
 use lib.ListN.{length}
-use borrow.Author.Tests.{le-leb}
+use lib.Dec.{ltb}
+use mir.Val.{bool_byte}
+use borrow.Author.Tests.{lt-ltb, le-leb}
 use Rattle.std.specs.Prelude.{Err}
 use Rattle.words.specs.Tests.{within}
 use Rattle.words.proofs.Tests.{within_says}
@@ -48,9 +50,13 @@ pub record On (m : List ℕ) (key left : ℕ) (s : Step) : Type 0 where
   pub rest : way_to m key ≡ way left m key (kid s.node s.from (suc s.top)) up
 
 -- the least entries that a node may have with so many levels below it
-abbrev least_of : ℕ → ℕ
+abbrev pub least_of : ℕ → ℕ
 least_of zero = leaf_least
 least_of (suc n) = inner_least
+
+pub least_is : (n : ℕ) → bool_byte (ltb 0 n) ≡ least_of n
+least_is zero = refl
+least_is (suc n) = rw (lt-ltb 0 (suc n) (omega arith))
 
 -- one level of the way
 module _ (m : List ℕ) (key : ℕ) (c : Kid) (up : List ℕ) where

@@ -35,9 +35,6 @@ impl From<Fault> for Refusal {
     }
 }
 
-// The root's cover has no ends: its last key is the greatest word.
-const GREATEST: u64 = u64::MAX;
-
 // Whether a number is that of a node in use.
 fn in_use(used: u64, node: u64) -> bool
     ensures { result ≡ within 1 node used }
@@ -56,7 +53,6 @@ pub struct Step {
 
 impl Step {
     // The node looked at for a key, if nothing is wrong with it.
-    #[inline(always)]
     fn meet(self, pool: &[u64], least: u64, key: u64) -> Result<(Node<'_>, Look), Fault>
         requires { (form_agrees pool.now ≡ true) × (counts_agree pool.now ≡ true) × (self.from ≤ self.top) }
         ensures { Met pool.now self least key result }
@@ -96,22 +92,25 @@ pub fn descend(pool: &[u64], key: u64) -> Result<Seat, Fault>
     if !counts_agree(pool) {
         return Err(Fault { node: 0 });
     }
+    // The root's cover has no ends.
     let mut step = Step {
         node: pool[Pool::ROOT_AT as usize],
         parent: 0,
         from: 0,
-        top: GREATEST,
+        top: u64::MAX,
     };
-    for _ in (1..pool[Pool::HEIGHT_AT as usize]).rev() {
-        let (node, seen) = step.meet(pool, 1, key)?;
+    for left in (0..pool[Pool::HEIGHT_AT as usize]).rev() {
+        let (node, seen) = step.meet(pool, (0 < left) as u64, key)?;
+        if left == 0 {
+            let at = node.place(seen.after, key);
+            return Ok(Seat {
+                leaf: node.number,
+                slot: node.slot,
+                rank: at.rank,
+                there: at.there,
+            });
+        }
         step = step.down(node, seen.after);
     }
-    let (leaf, seen) = step.meet(pool, 0, key)?;
-    let at = leaf.place(seen.after, key);
-    Ok(Seat {
-        leaf: leaf.number,
-        slot: leaf.slot,
-        rank: at.rank,
-        there: at.there,
-    })
+    unreachable!()
 }

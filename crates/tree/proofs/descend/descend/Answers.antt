@@ -1,23 +1,18 @@
 -- `tree::descend` meets its contract: a node a turn.
 use mathlib.Core.Path.{◌≡◌, ◌∙◌, sym}
 use mathlib.Core.Bool.{true}
-use Prim.Native.Nat.{ℕ, suc, ◌-◌, ◌≤◌, ◌<◌}
+use Prim.Native.Nat.{suc, ◌-◌}
 use native.Mathlib.Omega.{arith}
 use Rattle.std.proofs.lemmas.Result.{err_from_is_err_and}
 use Rattle.node.proofs.Views.{good_sound}
 use Rattle.tree.specs.Header.{counts_agree}
-use Rattle.tree.proofs.Form.{form}
+use Rattle.tree.specs.Kids.{leaf_least, inner_least}
+use Rattle.tree.specs.inner.Descended.{MetGood}
+use Rattle.tree.proofs.Form.{form, counts}
 use Rattle.tree.proofs.Kids.{sound_names, few_before}
-use Rattle.tree.proofs.Ways.{bad_header, at_root, ends_at, good_node, leaf_is, some_covered, go_down}
+use Rattle.tree.proofs.Ways.{On, least_is, bad_header, at_root, ends_at, good_node, leaf_is, some_covered, go_down}
 use Rattle.tree.proofs.descend.descend.Goals as goal
-use Rattle.tree.proofs.descend.descend.Goals.{Else-not-counts_agree}
-
--- the levels left below the node of a turn, and below the last
-below : (n : ℕ) → 1 < n → n - 1 ≡ suc (n - 1 - 1)
-below n h = omega arith
-
-lowest : (n : ℕ) → n ≤ 1 → n - 1 ≡ 0
-lowest n h = omega arith
+use Rattle.tree.proofs.descend.descend.Goals.{Else-not-counts_agree, Then-left-eq0, Else-left-eq0}
 
 -- the header agrees
 counted : (c : Else-not-counts_agree) → counts_agree c.args.pool.now ≡ true
@@ -35,55 +30,58 @@ bounds-pool c = let h = (form _ c.requires).least in omega arith
 pub bounds-pool-2 : goal.bounds-pool-2
 bounds-pool-2 c = let h = (form _ c.requires).least in omega arith
 
-pub loop-init : goal.loop-init
-loop-init c = at_root _ _ c.ranges.key.fits (counted (goal.at.loop-init c).Else-not-counts_agree)
+pub loop-left-init : goal.loop-left-init
+loop-left-init c =
+    let k = counted (goal.at.loop-left-init c).Else-not-counts_agree in
+    ((counts _ k).height.0, at_root _ _ c.ranges.key.fits k)
 
 pub meet-requires : goal.meet-requires
 meet-requires c =
-    let o = c.loop.invariant in
+    let o = c.loop-left.invariant.1 in
     (c.requires, counted (goal.at.meet-requires c).Else-not-counts_agree, omega (arith, o.low, o.high))
 
 pub returns-in_err-node : goal.returns-in_err-node
 returns-in_err-node c =
     let left = err_from_is_err_and c.from_residual.result c.from_residual.ensures.1 in
-    let o = rw (below _ c.loop-test.true) at c.loop.invariant in
-    rw (left.1, left.2) (ends_at _ _ o c.in_err-node.ensures)
+    rw (left.1, left.2) (ends_at _ _ c.loop-left.invariant.1 (rw least_is at c.in_err-node.ensures))
+
+-- at the leaf, and at an inner node
+at_leaf : (c : Then-left-eq0) → MetGood c.args.pool.now c.loop-left.step leaf_least c.args.key c.in_ok-node.node c.in_ok-node.seen
+at_leaf c = rw (least_is, c.if-left-eq0.true) at c.in_ok-node.ensures
+
+on_inner : (c : Else-left-eq0) → On c.args.pool.now c.args.key (suc (c.loop-left.left - 1 - 1)) c.loop-left.step
+on_inner c = let more : c.loop-left.left - 1 ≡ suc (c.loop-left.left - 1 - 1) = omega (arith, c.if-left-eq0.false) in rw more at c.loop-left.invariant.1
+
+at_inner : (c : Else-left-eq0) → MetGood c.args.pool.now c.loop-left.step inner_least c.args.key c.in_ok-node.node c.in_ok-node.seen
+at_inner c = let more : c.loop-left.left - 1 ≡ suc (c.loop-left.left - 1 - 1) = omega (arith, c.if-left-eq0.false) in rw (least_is, more) at c.in_ok-node.ensures
+
+pub place-at-requires : goal.place-at-requires
+place-at-requires c =
+    let k = (goal.at.place-at-requires c).Then-left-eq0 in
+    let g = at_leaf k in
+    record {
+      sound = rw (g.pool_is, g.number_is) (good_sound _ (good_node _ _ c.loop-left.invariant.1 g));
+      after_value = rw (g.pool_is, g.number_is) g.seen_is.after_is;
+    }
+
+pub returns-then-left-eq0 : goal.returns-then-left-eq0
+returns-then-left-eq0 c =
+    let g = at_leaf (goal.at.returns-then-left-eq0 c).Then-left-eq0 in
+    leaf_is _ _ (rw c.if-left-eq0.true at c.loop-left.invariant.1) g (rw (g.pool_is, g.number_is) at c.place-at.ensures)
 
 pub down-step-requires : goal.down-step-requires
 down-step-requires c =
-    let o = rw (below _ c.loop-test.true) at c.loop.invariant in
-    let g = c.in_ok-node.ensures in
+    let k = (goal.at.down-step-requires c).Else-left-eq0 in
+    let o = on_inner k in
+    let g = at_inner k in
     let n = c.in_ok-node.node in (
       sound_names n (rw (g.pool_is, g.number_is) (good_sound _ (good_node _ _ o g))),
       few_before _ _ g.seen_is (rw (g.pool_is, g.number_is) at n.slot_is),
       rw (g.pool_is, g.number_is) (some_covered _ _ o g),
     )
 
-pub loop-preserved : goal.loop-preserved
-loop-preserved c =
-    let g = c.in_ok-node.ensures in
-    go_down _ _ (rw (below _ c.loop-test.true) at c.loop.invariant) g (rw (g.pool_is, g.number_is) at c.down-step.ensures)
-
-pub meet-requires-2 : goal.meet-requires-2
-meet-requires-2 c =
-    let o = c.loop.invariant in
-    (c.requires, counted (goal.at.meet-requires-2 c).Else-not-counts_agree, omega (arith, o.low, o.high))
-
-pub returns-in_err-leaf : goal.returns-in_err-leaf
-returns-in_err-leaf c =
-    let left = err_from_is_err_and c.from_residual-in_err-leaf.result c.from_residual-in_err-leaf.ensures.1 in
-    let o = rw (lowest _ c.loop-test.false) at c.loop.invariant in
-    rw (left.1, left.2) (ends_at _ _ o c.in_err-leaf.ensures)
-
-pub place-at-requires : goal.place-at-requires
-place-at-requires c =
-    let g = c.in_ok-leaf.ensures in
-    record {
-      sound = rw (g.pool_is, g.number_is) (good_sound _ (good_node _ _ c.loop.invariant g));
-      after_value = rw (g.pool_is, g.number_is) g.seen_is.after_is;
-    }
-
-pub returns : goal.returns
-returns c =
-    let g = c.in_ok-leaf.ensures in
-    leaf_is _ _ (rw (lowest _ c.loop-test.false) at c.loop.invariant) g (rw (g.pool_is, g.number_is) at c.place-at.ensures)
+pub loop-left-preserved : goal.loop-left-preserved
+loop-left-preserved c =
+    let k = (goal.at.loop-left-preserved c).Else-left-eq0 in
+    let g = at_inner k in
+    (omega (arith, c.if-left-eq0.false), go_down _ _ (on_inner k) g (rw (g.pool_is, g.number_is) at c.down-step.ensures))

@@ -1,6 +1,6 @@
-use Prim.Native.Nat.{◌-◌}
+use Prim.Native.Nat.{◌-◌, ◌≤◌}
 use Rattle.tree.proofs.Ways.{On}
 use Rattle.tree.proofs.descend.descend.Given as goal
 
-abbrev pub invariant-loop : goal.invariant-loop
-invariant-loop l = On l.pool l.key (l.counter - 1) l.step
+abbrev pub invariant-loop-left : goal.invariant-loop-left
+invariant-loop-left l = (1 ≤ l.left) × On l.pool l.key (l.left - 1) l.step
