@@ -1,52 +1,79 @@
-// Writing events into a lent list: each call is handed the number of events before it and answers their number after it.
-ghost use Rattle.std.specs.Prelude.{◌+◌, ◌*◌, ◌≤◌, ◌<◌, ◌≡◌, [], ◌∷◌, length, set};
-ghost use Rattle.words.specs.Pool.{events_most, list_words};
-ghost use Rattle.words.specs.Event.{store, flush, fence, top_byte};
-ghost use Rattle.words.specs.Blocks.{once};
-ghost use Rattle.words.specs.Written.{Wrote};
+// Writing events into a lent list, one after the other.
+ghost use Rattle.std.specs.Prelude.{◌≤◌, length};
+ghost use Rattle.words.specs.Pool.{list_words};
 
 use crate::kind::{FENCE, FLUSH, STORE};
 use crate::limits::Pool;
 
-// The two words of an event: the kind in the top byte with the number below it, then the value.
-fn write_event(list: &mut [u64], n: u64, kind: u64, number: u64, value: u64) -> u64
-    requires { (n < events_most) × (list_words ≤ length list.old) × (kind ≤ 3) × (number < top_byte) }
-    ensures next { result ≡ n + 1 }
-    ensures words { list.new ≡ set (set list.old (n * 2) (kind * top_byte + number)) (n * 2 + 1) value }
-{
-    let at = (n as usize) * 2;
-    list[at] = (kind << 56) | number;
-    list[at + 1] = value;
-    n + 1
+// A lent list with room for every plan, and how many events were written into it.
+#[derive(Drop)]
+pub struct EventList<'a> {
+    pub words: &'a mut [u64],
+    pub events: u64,
+    ghost long: { list_words ≤ length words.now },
 }
 
-pub fn write_store(list: &mut [u64], n: u64, word: u64, value: u64) -> u64
-    requires { (n < events_most) × (list_words ≤ length list.old) × (word < top_byte) }
-    ensures { Wrote (store word value ∷ []) n list.old result list.new }
-{
-    write_event(list, n, STORE, word, value)
-}
+impl<'a> EventList<'a> {
+    ghost use Rattle.std.specs.Prelude.{◌+◌, ◌*◌, ◌<◌, ◌≡◌, [], ◌∷◌, set};
+    ghost use Rattle.words.specs.Pool.{events_most};
+    ghost use Rattle.words.specs.Event.{store, flush, fence, top_byte};
+    ghost use Rattle.words.specs.Blocks.{once};
+    ghost use Rattle.words.specs.Written.{Wrote};
 
-pub fn write_flush(list: &mut [u64], n: u64, line: u64) -> u64
-    requires { (n < events_most) × (list_words ≤ length list.old) × (line < top_byte) }
-    ensures { Wrote (flush line ∷ []) n list.old result list.new }
-{
-    write_event(list, n, FLUSH, line, 0)
-}
+    pub fn new(list: &'a mut [u64]) -> EventList<'a>
+        requires { list_words ≤ length list.old }
+        ensures same { result.words.ghost_name ≡ list.entry.ghost_name }
+        ensures list { result.words.now ≡ list.old }
+        ensures events { result.events ≡ 0 }
+    {
+        EventList {
+            words: list,
+            events: 0,
+        }
+    }
 
-pub fn write_fence(list: &mut [u64], n: u64) -> u64
-    requires { (n < events_most) × (list_words ≤ length list.old) }
-    ensures { Wrote (fence ∷ []) n list.old result list.new }
-{
-    write_event(list, n, FENCE, 0, 0)
-}
+    // The two words of an event: the kind in the top byte with the number below it, then the value.
+    fn write(&mut self, kind: u64, number: u64, value: u64)
+        requires { (self.old.events < events_most) × (kind ≤ 3) × (number < top_byte) }
+        ensures same { self.new.words.ghost_name ≡ self.old.words.ghost_name }
+        ensures next { self.new.events ≡ self.old.events + 1 }
+        ensures words { self.new.words.now
+            ≡ set (set self.old.words.now (self.old.events * 2) (kind * top_byte + number)) (self.old.events * 2 + 1) value }
+    {
+        let at = (self.events as usize) * 2;
+        self.words[at] = (kind << 56) | number;
+        self.words[at + 1] = value;
+        self.events += 1;
+    }
 
-// One word stored, its line flushed, a fence.
-pub fn write_once(list: &mut [u64], n: u64, word: u64, value: u64) -> u64
-    requires { (n + 3 ≤ events_most) × (list_words ≤ length list.old) × (word < top_byte) }
-    ensures { Wrote (once word value) n list.old result list.new }
-{
-    let stored = write_store(list, n, word, value);
-    let flushed = write_flush(list, stored, Pool::line(word));
-    write_fence(list, flushed)
+    pub fn store(&mut self, word: u64, value: u64)
+        requires { (self.old.events < events_most) × (word < top_byte) }
+        ensures { Wrote (store word value ∷ []) self.old self.new }
+    {
+        self.write(STORE, word, value);
+    }
+
+    pub fn flush(&mut self, line: u64)
+        requires { (self.old.events < events_most) × (line < top_byte) }
+        ensures { Wrote (flush line ∷ []) self.old self.new }
+    {
+        self.write(FLUSH, line, 0);
+    }
+
+    pub fn fence(&mut self)
+        requires { self.old.events < events_most }
+        ensures { Wrote (fence ∷ []) self.old self.new }
+    {
+        self.write(FENCE, 0, 0);
+    }
+
+    // One word stored, its line flushed, a fence.
+    pub fn once(&mut self, word: u64, value: u64)
+        requires { (self.old.events + 3 ≤ events_most) × (word < top_byte) }
+        ensures { Wrote (once word value) self.old self.new }
+    {
+        self.store(word, value);
+        self.flush(Pool::line(word));
+        self.fence();
+    }
 }
