@@ -1,7 +1,7 @@
--- `pool::rank_of` meets its contract: a node that is good has a place for the key.
+-- A node that is good has a place for the key.
 use Rattle.node.proofs.Ends.{seen_good}
 use Rattle.node.proofs.Views.{good_parts, good_sound}
-use Rattle.split.proofs.opening.rank_of.Goals as goal
+use Rattle.split.proofs.ranking.rank_of.Goals as goal
 
 pub place-at-requires : goal.place-at-requires
 place-at-requires c =
