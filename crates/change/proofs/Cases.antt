@@ -5,6 +5,7 @@ use mathlib.Core.List.{List, ◌∷◌}
 use mathlib.Core.Bool.{Bool, true, false}
 use lib.Dec.{ltb}
 use borrow.Author.Tests.{le-ltb, eq-eqb, ltb-true, ltb-false}
+use Rattle.std.specs.Prelude.{Ok}
 use Rattle.words.specs.Pool.{list_words, height_most}
 use Rattle.words.specs.declared.refusal.Refusal.TheVariants.{Damaged, NoRoom}
 use Rattle.node.specs.Lists.{has}
@@ -32,14 +33,14 @@ gate_passes {m} body w y = rw (w.form, eq-eqb (commit_of m) 0 w.clean, y.is)
 -- at leaf k: the key is there; the leaf has room; there are too few nodes; the eight-level refusal; or the leaf splits
 pub data PutAt (m : List ℕ) (key value k : ℕ) (ks : List ℕ) : Planned Outcome → Type 0 where
   replaces : has key (keys (view m k).records) ≡ true
-      → PutAt m key value k ks (record { answer = Replaced; events = replace_events k (view m k) (key, value) })
+      → PutAt m key value k ks (record { answer = Ok Replaced; events = replace_events k (view m k) (key, value) })
   fills : has key (keys (view m k).records) ≡ false → full (view m k) ≡ false
-      → PutAt m key value k ks (record { answer = New; events = fill_events k (view m k) (key, value) })
+      → PutAt m key value k ks (record { answer = Ok New; events = fill_events k (view m k) (key, value) })
   crowded : has key (keys (view m k).records) ≡ false → full (view m k) ≡ true → capacity_of m - used_of m < needed m (k ∷ ks)
       → PutAt m key value k ks (refused NoRoom)
   too_high : height_most < needed m (k ∷ ks) → PutAt m key value k ks (refused Damaged)
   splits : has key (keys (view m k).records) ≡ false → full (view m k) ≡ true → needed m (k ∷ ks) ≤ capacity_of m - used_of m
-      → PutAt m key value k ks (record { answer = New; events = plan_events (split m k ks (key, value)) })
+      → PutAt m key value k ks (record { answer = Ok New; events = plan_events (split m k ks (key, value)) })
 
 pub put_case : (m : List ℕ) (key value k : ℕ) (ks : List ℕ) → PutAt m key value k ks (put_at m key value k ks)
 unfolding put_at

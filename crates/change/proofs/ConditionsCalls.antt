@@ -7,7 +7,7 @@ use mathlib.Core.Bool.{Bool, true, false, not, ◌&&◌}
 use mathlib.Core.Option.{Option, none, some}
 use lib.ListN.{length}
 use lib.Dec.{ltb, eqb}
-use Rattle.std.specs.Prelude.{if◌then◌else◌}
+use Rattle.std.specs.Prelude.{if◌then◌else◌, Ok}
 use Rattle.words.specs.Pool.{height_most}
 use Rattle.words.specs.Event.{Event, event_at}
 use Rattle.words.specs.Answers.{carried_says}
@@ -25,23 +25,23 @@ use Rattle.tree.specs.Map.{find}
 use Rattle.tree.specs.Check.{Walk, fault, going, walk}
 use Rattle.change.specs.declared.Outcome.{Outcome}
 use Rattle.change.specs.declared.Outcome.TheVariants as o
-use Rattle.change.specs.declared.Formatted.{Formatted}
 use Rattle.change.specs.declared.Recovery.{Recovery}
 use Rattle.change.specs.declared.Recovery.TheVariants as r
 use Rattle.change.specs.Answers.{outcome_says, format_says, recovery_says, check_says}
-use Rattle.change.specs.Gate.{Planned, quiet, refused, at_leaf, past_gate}
+use Rattle.change.specs.Gate.{Planned, quiet, refused, outcome_of, at_leaf, past_gate}
 use Rattle.change.specs.Steps.{full}
 use Rattle.change.specs.Format.{format_past_list}
 use Rattle.change.specs.Recover.{recover_past_form, log_agrees}
 use Rattle.change.specs.Fetch.{fetch_at, said}
-use Rattle.change.specs.Delete.{delete_at}
-use Rattle.change.specs.Put.{put_at, needed}
+use Rattle.change.specs.Delete.{delete_at, delete}
+use Rattle.change.specs.Put.{put_at, needed, put}
 use Rattle.change.specs.Check.{Examined, refuse, check_past_gate, walked}
 use Rattle.change.specs.Calls as calls
 use Rattle.change.specs.Conditions as w
 use Rattle.change.specs.Conditions.{Rows, Says}
 use Rattle.change.proofs.Conditions.{fails_form}
 use Rattle.change.proofs.Conditions.{fails_counts, tells_log, carries, fails_event}
+use Rattle.change.proofs.Refused.{outcome_answered}
 use Rattle.change.proofs.ConditionsPath.{lost, tells_damaged}
 use Rattle.change.proofs.ConditionsRoom.{tells_no_room, tells_eight}
 
@@ -49,7 +49,7 @@ use Rattle.change.proofs.ConditionsRoom.{tells_no_room, tells_eight}
 abbrev by_outcome : Planned Outcome → ℕ
 by_outcome p = (outcome_says p.answer).1
 
-abbrev by_formatted : Planned Formatted → ℕ
+abbrev by_formatted : Planned ℕ → ℕ
 by_formatted p = (format_says p.answer).1
 
 abbrev by_recovery : Planned Recovery → ℕ
@@ -74,7 +74,7 @@ recover_numbers m l =
     (λ n. row 2 sixth by_recovery _ _ (not_tells (fails_form m)) refl (λ n. go (eqb (commit_of m) 0) (log_agrees m) _ (tells_log m) refl))
   where
     go : (b d : Bool) (p : Planned Recovery) → Tells (w.BadLog m) (not b && not d) → by_recovery p ≡ 0
-        → Says ((w.BadLog m, 6) ∷ []) (by_recovery (if b then quiet r.Clean else if not d then quiet (r.Refused BadLog) else p))
+        → Says ((w.BadLog m, 6) ∷ []) (by_recovery (if b then quiet r.Clean else if not d then refused BadLog else p))
     go true d p (isnt n) e = inr (n, refl)
     go false true p (isnt n) e = inr (n, e)
     go false false p (is c) e = inl (c, refl)
@@ -108,7 +108,7 @@ key_rows m key body rows h = gate m ((w.Damaged m key, 4) ∷ rows) by_outcome r
 pub fetch_numbers : (m : List ℕ) (key : ℕ) → Says (w.fetch_rows m key) (outcome_says (calls.fetch_answer m key)).1
 fetch_numbers m key = key_rows m key (fetch_at m key) [] (λ k above e. found (find key (view m k).records))
   where
-    found : (v : Option ℕ) → (outcome_says (said v)).1 ≡ 0
+    found : (v : Option ℕ) → (outcome_says (Ok (said v))).1 ≡ 0
     found none = refl
     found (some v) = refl
 
@@ -129,17 +129,19 @@ put_at_leaf m key value k above e =
     go false true false true x y z p q s (isnt n) (is c) = inr (n, inl (c, refl))
     go false true false false x y z p q s (isnt n) (isnt t) = inr (n, inr (t, s))
 
-pub put_numbers : (m l : List ℕ) (key value : ℕ) → Says (w.put_rows m l key) (outcome_says (calls.put_answer m l key value).outcome).1
+pub put_numbers : (m l : List ℕ) (key value : ℕ) → Says (w.put_rows m l key) (outcome_says (outcome_of (calls.put_answer m l key value))).1
 put_numbers m l key value =
     let at_leaf_rows : Rows = (w.NoRoom m key, 5) ∷ (w.SplitsEight m key, 4) ∷ [] in
-    row 1 ((w.NoPool m, 2) ∷ (w.Unfinished m, 3) ∷ (w.Damaged m key, 4) ∷ at_leaf_rows) by_outcome _ _ (tells_less (length l) 372) refl
-    (λ n. key_rows m key (put_at m key value) at_leaf_rows (put_at_leaf m key value))
+    rw (outcome_answered (put (length l) m key value))
+    (row 1 ((w.NoPool m, 2) ∷ (w.Unfinished m, 3) ∷ (w.Damaged m key, 4) ∷ at_leaf_rows) by_outcome _ _ (tells_less (length l) 372) refl
+    (λ n. key_rows m key (put_at m key value) at_leaf_rows (put_at_leaf m key value)))
 
-pub delete_numbers : (m l : List ℕ) (key : ℕ) → Says (w.delete_rows m l key) (outcome_says (calls.delete_answer m l key).outcome).1
+pub delete_numbers : (m l : List ℕ) (key : ℕ) → Says (w.delete_rows m l key) (outcome_says (outcome_of (calls.delete_answer m l key))).1
 unfolding delete_at
 delete_numbers m l key =
-    row 1 (w.fetch_rows m key) by_outcome _ _ (tells_less (length l) 372) refl
-    (λ n. key_rows m key (delete_at m key) [] (λ k above e. go (has key (keys (view m k).records)) _ refl))
+    rw (outcome_answered (delete (length l) m key))
+    (row 1 (w.fetch_rows m key) by_outcome _ _ (tells_less (length l) 372) refl
+    (λ n. key_rows m key (delete_at m key) [] (λ k above e. go (has key (keys (view m k).records)) _ refl)))
   where
     go : (h : Bool) (x : Planned Outcome) → by_outcome x ≡ 0 → by_outcome (if h then x else quiet o.Absent) ≡ 0
     go true x e = e
@@ -152,7 +154,7 @@ check_numbers m marks =
     (row 11 ((w.BadCounts m, 4) ∷ []) by_checked _ _ (tells_less (length marks) (capacity_of m)) refl
     (λ n. row 4 [] by_checked _ _ (not_tells (fails_counts m)) refl (λ n. ended (walk m marks))))
   where
-    ended : (x : Walk) → (check_says (walked x)).1 ≡ 0
+    ended : (x : Walk) → (check_says (Ok (walked x))).1 ≡ 0
     ended (fault k g) = refl
     ended (going s) = refl
 

@@ -20,6 +20,7 @@ pub mod Risen
 pub mod Run
 pub mod Split
 pub mod Cases
+pub mod Refused
 pub mod Told
 pub mod Served
 pub mod Recover

@@ -9,6 +9,7 @@ use lib.ListN.{length, set, length-set}
 use lib.Seq.{get_or-set_same, get_or-set_other}
 use lib.Dec.{leb}
 use borrow.Author.Tests.{le-ltb, le-leb, leb-true, ne_eqb}
+use Rattle.std.specs.Prelude.{Ok}
 use Rattle.words.specs.Pool.{used_at, log_at, nodes_at, commit_at, pairs_at, pairs_most, list_words}
 use Rattle.words.specs.Event.{fence, at, run}
 use Rattle.words.specs.Blocks.{Pair, once, stores, replay}
@@ -21,9 +22,9 @@ use Rattle.words.proofs.Logged.{redo}
 use Rattle.tree.specs.Header.{total_in, commit_of, form_agrees}
 use Rattle.change.specs.declared.Recovery.{Recovery}
 use Rattle.change.specs.declared.Recovery.TheVariants.{Clean, Recovered}
-use Rattle.change.specs.Gate.{Planned, quiet}
+use Rattle.change.specs.Gate.{Planned, quiet, refused}
 use Rattle.change.specs.Plan.{log_words, log_replayed, log_finished}
-use Rattle.change.specs.Recover.{log_pairs, may_store, all_may_store, log_agrees, refuse, recover_past_form, recover, recovery}
+use Rattle.change.specs.Recover.{log_pairs, may_store, all_may_store, log_agrees, recover_past_form, recover, recovery}
 use Rattle.change.proofs.Conditions.{BadAddress, fails_address}
 use Rattle.change.proofs.Pairs.{Within, within_at, within_off}
 use Rattle.change.proofs.Goes.{log_in}
@@ -42,7 +43,7 @@ recovery_clean m c = go (form_agrees m) refl
   where
     go : (b : Bool) → form_agrees m ≡ b → recovery m ≡ []
     go true f = ap (λ (p : Planned Recovery). p.events) (recover_clean m f c)
-    go false f = ap (λ (p : Planned Recovery). p.events) (let r : recover list_words m ≡ refuse NoPool = rw f in r)
+    go false f = ap (λ (p : Planned Recovery). p.events) (let r : recover list_words m ≡ refused NoPool = rw f in r)
 
 -- "(d) and (e) from the log"
 pub finished_redo : (ps : List Pair) → log_finished ps ≡ redo commit_at ps
@@ -121,10 +122,14 @@ log_says m t =
     let b = both {a = leb (commit_of m) pairs_most} {b = all_may_store (total_in m) (log_pairs (commit_of m) pairs_at m)} t in
     (leb-true (commit_of m) pairs_most b.0, b.1)
 
--- a committed log is accepted: "Recovered with the pair count c", and the events are those of its pairs
+-- "Recovered with the pair count c", and the events are those of the pairs
+abbrev pub replaying : List Pair → Planned Recovery
+replaying ps = record { answer = Ok (Recovered (length ps) (length (log_finished ps))); events = log_finished ps }
+
+-- a committed log is accepted
 pub recover_logged : (m : List ℕ) (ps : List Pair) → form_agrees m ≡ true → commit_of m ≡ length ps → 1 ≤ length ps
     → length ps ≤ pairs_most → log_pairs (length ps) pairs_at m ≡ ps → AllStorable (total_in m) ps
-    → recover list_words m ≡ record { answer = Recovered (length ps) (length (log_finished ps)); events = log_finished ps }
+    → recover list_words m ≡ replaying ps
 unfolding recover_past_form log_agrees
 recover_logged m ps form count some few read storable =
     rw (

@@ -8,7 +8,7 @@ use native.Mathlib.Omega.{arith}
 use lib.ListN.{length}
 use lib.Dec.{eqb}
 use borrow.Author.Tests.{eqb-true, eqb-false}
-use Rattle.std.specs.Prelude.{if◌then◌else◌}
+use Rattle.std.specs.Prelude.{if◌then◌else◌, Ok}
 use Rattle.words.specs.Pool.{list_words}
 use Rattle.words.specs.Event.{run}
 use Rattle.words.specs.declared.refusal.Refusal.TheVariants.{NoRoom}
@@ -35,7 +35,7 @@ use Rattle.change.specs.Fetch.{said, fetch_at, fetch}
 use Rattle.change.specs.Delete.{delete_at, delete}
 use Rattle.change.specs.Put.{needed, put_at, put}
 use Rattle.change.specs.Room.{LacksRoom, Crowded}
-use Rattle.change.specs.Calls.{serve, serve_answer, key_of}
+use Rattle.change.specs.Calls.{serve, key_of}
 use Rattle.change.specs.Rule.{changed, rule}
 use Rattle.change.proofs.Leaf.{leaf_node, deleted, replaced, filled}
 use Rattle.change.proofs.Split.{needed_needs, split_leaves}
@@ -44,12 +44,12 @@ use Rattle.change.proofs.Cases.{list_passes, gate_passes, PutAt, replaces, fills
 -- what delete plans: nothing for an absent key, or events that take the key out
 pub data Deletes (m : List ℕ) (key : ℕ) (p : Planned Outcome) : Type 0 where
   absent : map_of m key ≡ none → p ≡ quiet Absent → Deletes m key p
-  removed : (old : ℕ) → map_of m key ≡ some old → p.answer ≡ Removed → After m (run m p.events) key none → Deletes m key p
+  removed : (old : ℕ) → map_of m key ≡ some old → p.answer ≡ Ok Removed → After m (run m p.events) key none → Deletes m key p
 
 -- what put plans: events that replace the value of a present key, or that put an absent one in; or it is refused for want of room
 pub data Puts (m : List ℕ) (key value : ℕ) (p : Planned Outcome) : Type 0 where
-  present : (old : ℕ) → map_of m key ≡ some old → p.answer ≡ Replaced → After m (run m p.events) key (some value) → Puts m key value p
-  new : map_of m key ≡ none → ¬ LacksRoom m key → p.answer ≡ New → After m (run m p.events) key (some value) → Puts m key value p
+  present : (old : ℕ) → map_of m key ≡ some old → p.answer ≡ Ok Replaced → After m (run m p.events) key (some value) → Puts m key value p
+  new : map_of m key ≡ none → ¬ LacksRoom m key → p.answer ≡ Ok New → After m (run m p.events) key (some value) → Puts m key value p
   too_full : LacksRoom m key → p ≡ refused NoRoom → Puts m key value p
 
 module _ {m : List ℕ} (w : WellFormed m) where
@@ -116,7 +116,7 @@ module _ {m : List ℕ} (w : WellFormed m) where
 -- the plan of a request: it answers by the map's rule and its events leave a well-formed pool with the map that the rule says; or
 -- it is refused with no events, exactly where it needs more room than there is
 pub data Served (m : List ℕ) (q : Request) (p : Planned Outcome) : Type 0 where
-  by_rule : ¬ Crowded m q → p.answer ≡ (rule q (map_of m)).0 → WellFormed (run m p.events)
+  by_rule : ¬ Crowded m q → p.answer ≡ Ok (rule q (map_of m)).0 → WellFormed (run m p.events)
       → map_of (run m p.events) ≡ (rule q (map_of m)).1 → Served m q p
   no_room : Crowded m q → p ≡ refused NoRoom → Served m q p
 
@@ -144,7 +144,3 @@ module _ {m : List ℕ} (w : WellFormed m) where
   serve_served room (Put key value) long small = put_rule key value (put room m key value) (put_served w room key long small value)
   serve_served room (Fetch key) long small = rw (fetch_served w key small) (by_rule (λ x. x) refl w refl)
   serve_served room (Delete key) long small = delete_rule key (delete room m key) (delete_served w room key long small)
-
--- the event count of an answer is the length of what is planned
-pub serve_counted : (m l : List ℕ) (q : Request) → (serve_answer m l q).events ≡ length (serve (length l) m q).events
-serve_counted m l q = refl

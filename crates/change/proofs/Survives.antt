@@ -8,6 +8,7 @@ use mathlib.Core.Bool.{true}
 use native.Mathlib.Omega.{arith}
 use lib.ListN.{length}
 use lib.Seq.{get_or-set_same, get_or-set_other}
+use Rattle.std.specs.Prelude.{Ok, Err}
 use Rattle.words.specs.Pool.{used_at, commit_at, pairs_at, nodes_at, pairs_most, list_words}
 use Rattle.words.specs.Event.{Event, fence, at, run, top_byte}
 use Rattle.words.specs.Blocks.{Pair, once, replay}
@@ -28,14 +29,14 @@ use Rattle.tree.proofs.Lists.{each_left, each_right}
 use Rattle.tree.proofs.Form.{Form, form, form_same}
 use Rattle.tree.proofs.Read.{reads_same, reads_same_map}
 use Rattle.change.specs.declared.Recovery.{Recovery}
-use Rattle.change.specs.declared.Recovery.TheVariants.{Clean, Recovered, Refused}
+use Rattle.change.specs.declared.Recovery.TheVariants.{Clean, Recovered}
 use Rattle.change.specs.Gate.{Planned}
 use Rattle.change.specs.Plan.{log_written, log_committed, log_replayed, log_finished, log_events}
 use Rattle.change.specs.Recover.{log_pairs, recover, recovery}
 use Rattle.change.proofs.Pairs.{within_weaken}
 use Rattle.change.proofs.Counts.{finished_count}
 use Rattle.change.proofs.Goes.{Goes, AllGo, go_stores, log_goes}
-use Rattle.change.proofs.Recover.{recovery_clean, recover_clean, finished_redo, Storable, AllStorable}
+use Rattle.change.proofs.Recover.{replaying, recovery_clean, recover_clean, finished_redo, Storable, AllStorable}
 use Rattle.change.proofs.Recover.{storable_off, log_same, recover_logged}
 
 -- events that store, and flush, under n alone
@@ -44,7 +45,7 @@ Under n es = AllGo (λ x. x < n) es
 
 -- recovery takes a memory: it plans few events, under the total, and after the last of them every word is safe
 pub record Accepts (m : List ℕ) : Type 0 where
-  pub unrefused : (why : Refusal) → (recover list_words m).answer ≡ Refused why → ⊥
+  pub unrefused : (why : Refusal) → (recover list_words m).answer ≡ Err why → ⊥
   pub few : length (recovery m) ≤ 2 * pairs_most + 4
   pub form : Form m
   pub under : Under (total_in m) (recovery m)
@@ -55,8 +56,7 @@ recovery_none {m} w = recovery_clean m w.clean
 
 pub accepts_clean : {m : List ℕ} → WellFormed m → Accepts m
 accepts_clean {m} w = record {
-  unrefused = λ why e. let k : Clean ≡ Refused why = rw (recover_clean m w.form w.clean) at e in
-      let z : ◌≡◌ {A = ℕ} 0 1 = cc in omega arith;
+  unrefused = λ why e. let k : Ok Clean ≡ Err why = rw (recover_clean m w.form w.clean) at e in cc;
   few = rw (recovery_none w) (omega arith);
   form = form m w.form;
   under = rw (recovery_none w) tt;
@@ -82,12 +82,11 @@ finished_safe m ps x =
     (settled_append x (replay ps ++ (fence ∷ [])) (once commit_at 0) (settled_replay x ps) (settled_once x commit_at 0))
 
 accepts_logged : (m : List ℕ) (ps : List Pair) → Form m → AllStorable (total_in m) ps → length ps ≤ pairs_most
-    → recover list_words m ≡ record { answer = Recovered (length ps) (length (log_finished ps)); events = log_finished ps } → Accepts m
+    → recover list_words m ≡ replaying ps → Accepts m
 accepts_logged m ps f t few e =
     let es : recovery m ≡ log_finished ps = ap (λ (p : Planned Recovery). p.events) e in
     record {
-      unrefused = λ why k. let k' : Recovered (length ps) (length (log_finished ps)) ≡ Refused why = rw e at k in
-          let z : ◌≡◌ {A = ℕ} 0 1 = cc in omega arith;
+      unrefused = λ why k. let k' : Ok (Recovered (length ps) (length (log_finished ps))) ≡ Err why = rw e at k in cc;
       few = rw es (omega (arith, finished_count ps));
       form = f;
       under = rw es (finished_under (total_in m) ps (omega (arith, f.total)) few t);
@@ -183,7 +182,7 @@ module _ {m : List ℕ} (w : WellFormed m) {prep : List Event} (p : Prepares (Re
       storable_kept : AllStorable (total_in m') ps
       storable_kept = rw (header 1 (omega arith)) t
 
-      replayed : recover list_words m' ≡ record { answer = Recovered (length ps) (length (log_finished ps)); events = log_finished ps }
+      replayed : recover list_words m' ≡ replaying ps
       replayed =
           recover_logged m' ps form_kept
           (word commit_at (inr (omega arith, omega arith)) ∙ get_or-set_same (run m prep) commit_at (length ps) 0 long)

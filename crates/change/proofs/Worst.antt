@@ -7,6 +7,7 @@ use native.Mathlib.Omega.{arith}
 use lib.ListN.{length}
 use lib.Dec.{T}
 use lib.Ieee.Bits.{is_true}
+use Rattle.std.specs.Prelude.{Ok}
 use Rattle.words.specs.Lists.{count_from}
 use Rattle.words.specs.Pool.{used_at, root_at, height_at, list_words}
 use Rattle.words.specs.Event.{at, run}
@@ -57,7 +58,7 @@ abbrev rows : ℕ → ℕ → List ℕ → List Row
 rows r l path =
     numbers (l ∷ r ∷ []) (split_levels (memory r l) path ∷ new_roots (memory r l) path ∷ [])
     ∷ numbers (most r l ∷ []) (length (plan r l).events ∷ [])
-    ∷ says (outcome_says New) (outcome_says (plan r l).answer)
+    ∷ says (outcome_says (Ok New)) (outcome_says (plan r l).answer)
     ∷ []
 
 -- that it is so where the way down comes to a leaf, and that all words have 64 bits
@@ -80,8 +81,8 @@ each f i n x t h k =
     rw e at (every_at f (x - i) (count_from i n) t (omega (arith, length_from i n)))
 
 -- a list that is long enough answers as one of 372 words does
-answers : (r l : ℕ) → New ≡ (plan r l).answer → most r l ≡ length (plan r l).events → (list : List ℕ) → list_words ≤ length list
-    → put_answer (memory r l) list 5 5 ≡ record { outcome = New; events = most r l }
+answers : (r l : ℕ) → Ok New ≡ (plan r l).answer → most r l ≡ length (plan r l).events → (list : List ℕ) → list_words ≤ length list
+    → put_answer (memory r l) list 5 5 ≡ Ok (record { outcome = New; events = most r l })
 answers r l e c list h = rw (list_passes (length list) _ h, ← e, ← c)
 
 passed : (r l : ℕ) (w : Way) → way_to (memory r l) 5 ≡ w → T (meets r l w) → Reached r l (most r l)
@@ -100,7 +101,7 @@ passed r l (leaf k above) e t =
       way = e;
       levels = sym (ap (λ (xs : List ℕ). at xs 0) agree.0);
       roots = sym (ap (λ (xs : List ℕ). at xs 1) agree.0);
-      call = answers r l (outcome_told New (plan r l).answer agree.1.1.0) (ap (λ (xs : List ℕ). at xs 0) agree.1.0);
+      call = answers r l (outcome_told (Ok New) (plan r l).answer agree.1.1.0) (ap (λ (xs : List ℕ). at xs 0) agree.1.0);
     }
 
 pub reached : (r l : ℕ) → r ≤ 1 → 1 ≤ l → l ≤ 7 → Reached r l (most r l)

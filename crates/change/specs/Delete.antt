@@ -1,5 +1,5 @@
 -- Document 01, "Delete", with refusals 1 to 4.
-use Rattle.std.specs.Prelude.{ℕ, List, if◌then◌else◌}
+use Rattle.std.specs.Prelude.{ℕ, List, if◌then◌else◌, Ok}
 use Rattle.words.specs.Blocks.{once}
 use Rattle.node.specs.Lists.{has}
 use Rattle.node.specs.View.{view, keys, slot_at}
@@ -13,7 +13,7 @@ use Rattle.change.specs.Steps.{removed_slot}
 unfoldable pub delete_at : List ℕ → ℕ → ℕ → List ℕ → Planned Outcome
 delete_at m key k above =
     let u = view m k in
-    if has key (keys u.records) then record { answer = Removed; events = once (slot_at k) (removed_slot u key) }
+    if has key (keys u.records) then record { answer = Ok Removed; events = once (slot_at k) (removed_slot u key) }
     else quiet Absent
 
 -- 1, 2, 3, 4, then removed or absent

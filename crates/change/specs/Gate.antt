@@ -1,5 +1,5 @@
 -- What a call answers and plans, the refusals that stand before every body, and what is left in the lent list.
-use Rattle.std.specs.Prelude.{ℕ, List, [], not, length, ltb, eqb, if◌then◌else◌}
+use Rattle.std.specs.Prelude.{ℕ, List, [], not, length, ltb, eqb, if◌then◌else◌, Result, Ok, Err}
 use Rattle.words.specs.Pool.{list_words}
 use Rattle.words.specs.Event.{Event}
 use Rattle.words.specs.Written.{written}
@@ -8,29 +8,43 @@ use Rattle.words.specs.declared.refusal.Refusal.TheVariants.{ShortList, NoPool, 
 use Rattle.tree.specs.Header.{commit_of, form_agrees}
 use Rattle.tree.specs.Path.{Way, failed, leaf}
 use Rattle.change.specs.declared.Outcome.{Outcome}
-use Rattle.change.specs.declared.Outcome.TheVariants.{Refused}
 use Rattle.change.specs.declared.Answer.{Answer}
 
--- an answer, and the events planned with it
+-- an answer or a refusal, and the events planned with it
 pub record Planned (A : Type 0) : Type 0 where
-  pub answer : A
+  pub answer : Result A Refusal
   pub events : List Event
 
 -- an answer with no events
 abbrev pub quiet : {A : Type 0} → A → Planned A
-quiet a = record { answer = a; events = [] }
+quiet a = record { answer = Ok a; events = [] }
 
 -- "Each leaves everything lent unchanged and counts 0 events."
-abbrev pub refused : Refusal → Planned Outcome
-refused why = quiet (Refused why)
+abbrev pub refused : {A : Type 0} → Refusal → Planned A
+refused why = record { answer = Err why; events = [] }
 
 -- "Planning writes only the list, and of it only its events' words": the lent list after the call
 abbrev pub list_after : {A : Type 0} → Planned A → List ℕ → List ℕ
 list_after p l = written p.events 0 l
 
+-- an outcome with an event count; a refusal counts none
+abbrev pub with_count : Result Outcome Refusal → ℕ → Result Answer Refusal
+with_count (Ok outcome) events = Ok (record { outcome = outcome; events = events })
+with_count (Err why) events = Err why
+
 -- the outcome and the event count
-abbrev pub answered : Planned Outcome → Answer
-answered p = record { outcome = p.answer; events = length p.events }
+abbrev pub answered : Planned Outcome → Result Answer Refusal
+answered p = with_count p.answer (length p.events)
+
+-- the outcome of an answer
+abbrev pub outcome_of : Result Answer Refusal → Result Outcome Refusal
+outcome_of (Ok answer) = Ok answer.outcome
+outcome_of (Err why) = Err why
+
+-- and its event count
+abbrev pub events_of : Result Answer Refusal → ℕ
+events_of (Ok answer) = answer.events
+events_of (Err why) = 0
 
 module _ {A : Type 0} (refuse : Refusal → A) where
   -- 1: "event list under 372 words"

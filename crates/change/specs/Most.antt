@@ -1,5 +1,5 @@
 -- Document 01, "Most events for l split levels".
-use Rattle.std.specs.Prelude.{ℕ, suc, ◌+◌, ◌-◌, ◌*◌, ◌/◌, ◌≤◌, ◌≡◌, List, [], ◌∷◌, map, true, length, if◌then◌else◌}
+use Rattle.std.specs.Prelude.{ℕ, suc, ◌+◌, ◌-◌, ◌*◌, ◌/◌, ◌≤◌, ◌≡◌, List, [], ◌∷◌, map, true, length, if◌then◌else◌, Ok}
 use Rattle.words.specs.Lists.{count_from}
 use Rattle.words.specs.Pool.{list_words, events_most}
 use Rattle.node.specs.Lists.{all_below}
@@ -67,7 +67,7 @@ pub record Reached (r l events : ℕ) : Type 0 where
   pub roots : new_roots memory (node ∷ above) ≡ r
   -- with every list that is long enough, the call answers new and this count of events
   pub call : (list : List ℕ) → list_words ≤ length list
-      → put_answer memory list key value ≡ record { outcome = New; events = events }
+      → put_answer memory list key value ≡ Ok (record { outcome = New; events = events })
 
 -- the table says the most: the formula gives it, no split plans more, and for each number there is a call of put that plans so many
 pub record Most : Type 0 where

@@ -1,5 +1,5 @@
 -- Document 01, "Put, key present", "Put, leaf not full" and "Put, leaf full", with refusals 1 to 5.
-use Rattle.std.specs.Prelude.{ℕ, suc, ◌+◌, ◌-◌, List, [], ◌∷◌, ◌++◌, not, get_or, ltb, if◌then◌else◌}
+use Rattle.std.specs.Prelude.{ℕ, suc, ◌+◌, ◌-◌, List, [], ◌∷◌, ◌++◌, not, get_or, ltb, if◌then◌else◌, Ok}
 use Rattle.words.specs.Pool.{used_at, root_at, height_at, height_most}
 use Rattle.words.specs.Event.{Event, fence}
 use Rattle.words.specs.Blocks.{once, stored}
@@ -71,11 +71,11 @@ unfoldable pub put_at : List ℕ → ℕ → ℕ → ℕ → List ℕ → Planne
 put_at m key value k above =
     let u = view m k in
     let splitting = plan_events (split m k above (key, value)) in
-    if has key (keys u.records) then record { answer = Replaced; events = replace_events k u (key, value) }
-    else if not (full u) then record { answer = New; events = fill_events k u (key, value) }
+    if has key (keys u.records) then record { answer = Ok Replaced; events = replace_events k u (key, value) }
+    else if not (full u) then record { answer = Ok New; events = fill_events k u (key, value) }
     else if ltb (capacity_of m - used_of m) (needed m (k ∷ above)) then refused NoRoom
     else if ltb height_most (needed m (k ∷ above)) then refused Damaged
-    else record { answer = New; events = splitting }
+    else record { answer = Ok New; events = splitting }
 
 -- 1, 2, 3, 4, then new or replaced, or 5
 abbrev pub put : ℕ → List ℕ → ℕ → ℕ → Planned Outcome

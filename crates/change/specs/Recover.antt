@@ -1,15 +1,14 @@
 -- Document 01, "Recover", with refusals 1, 2 and 6.
-use Rattle.std.specs.Prelude.{ℕ, zero, suc, ◌+◌, ◌-◌, List, [], ◌∷◌, Bool, true, not, ◌&&◌, length, leb, ltb, eqb, if◌then◌else◌}
+use Rattle.std.specs.Prelude.{ℕ, zero, suc, ◌+◌, ◌-◌, List, [], ◌∷◌, Bool, true, not, ◌&&◌, length, leb, ltb, eqb, if◌then◌else◌, Ok}
 use Rattle.words.specs.Tests.{within}
 use Rattle.words.specs.Pool.{used_at, log_at, nodes_at, pairs_at, pairs_most, list_words}
 use Rattle.words.specs.Event.{Event, at}
 use Rattle.words.specs.Blocks.{Pair}
-use Rattle.words.specs.declared.refusal.Refusal.{Refusal}
 use Rattle.words.specs.declared.refusal.Refusal.TheVariants.{BadLog}
 use Rattle.tree.specs.Header.{total_in, commit_of}
 use Rattle.change.specs.declared.Recovery.{Recovery}
-use Rattle.change.specs.declared.Recovery.TheVariants.{Clean, Recovered, Refused}
-use Rattle.change.specs.Gate.{Planned, quiet, past_list, past_form}
+use Rattle.change.specs.declared.Recovery.TheVariants.{Clean, Recovered}
+use Rattle.change.specs.Gate.{Planned, quiet, refused, past_list, past_form}
 use Rattle.change.specs.Plan.{log_finished}
 
 -- the pairs that stand in the log, n of them from word w on
@@ -30,21 +29,17 @@ all_may_store total (p ∷ ps) = may_store total p.0 && all_may_store total ps
 unfoldable pub log_agrees : List ℕ → Bool
 log_agrees m = leb (commit_of m) pairs_most && all_may_store (total_in m) (log_pairs (commit_of m) pairs_at m)
 
--- "Each leaves everything lent unchanged and counts 0 events."
-abbrev pub refuse : Refusal → Planned Recovery
-refuse why = quiet (Refused why)
-
 -- "with commit word 0, Clean, no events. Otherwise (d) and (e) from the log: Recovered with the pair count c"; 6
 unfoldable pub recover_past_form : List ℕ → Planned Recovery
 recover_past_form m =
     let es = log_finished (log_pairs (commit_of m) pairs_at m) in
     if eqb (commit_of m) 0 then quiet Clean
-    else if not (log_agrees m) then refuse BadLog
-    else record { answer = Recovered (commit_of m) (length es); events = es }
+    else if not (log_agrees m) then refused BadLog
+    else record { answer = Ok (Recovered (commit_of m) (length es)); events = es }
 
 -- 1, 2, then clean, 6 or recovered
 abbrev pub recover : ℕ → List ℕ → Planned Recovery
-recover room m = past_list refuse room (past_form refuse m (recover_past_form m))
+recover room m = past_list refused room (past_form refused m (recover_past_form m))
 
 -- the events that recovery plans for a memory, with "a list of 372 words"
 abbrev pub recovery : List ℕ → List Event

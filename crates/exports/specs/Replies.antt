@@ -1,5 +1,5 @@
 -- What an exported call answers: each answer of document 01 as words, by kind, count and number.
-use Rattle.std.specs.Prelude.{ℕ}
+use Rattle.std.specs.Prelude.{ℕ, Result, Ok, Err}
 use Rattle.words.specs.Refusals.{number}
 use Rattle.words.specs.declared.refusal.Refusal.{Refusal}
 use Rattle.words.specs.declared.carry.Carried.{Carried}
@@ -7,12 +7,11 @@ use Rattle.words.specs.declared.carry.Carried.TheVariants as e
 use Rattle.change.specs.declared.Outcome.{Outcome}
 use Rattle.change.specs.declared.Outcome.TheVariants as o
 use Rattle.change.specs.declared.Answer.{Answer}
-use Rattle.change.specs.declared.Formatted.{Formatted}
-use Rattle.change.specs.declared.Formatted.TheVariants as f
 use Rattle.change.specs.declared.Recovery.{Recovery}
 use Rattle.change.specs.declared.Recovery.TheVariants as r
 use Rattle.change.specs.declared.Checked.{Checked}
 use Rattle.change.specs.declared.Checked.TheVariants as c
+use Rattle.change.specs.Gate.{outcome_of, events_of}
 use Rattle.exports.specs.declared.reply.Reply.{Reply}
 use Rattle.exports.specs.declared.reply.Verdict.{Verdict}
 use Rattle.words.specs.Kinds as k
@@ -26,28 +25,28 @@ abbrev pub refused : Refusal → Reply
 refused why = plain k.refused 0 (number why)
 
 -- "Fetch answers found or absent, put new or replaced, delete removed or absent", with a count of events
-abbrev pub outcome_reply : Outcome → ℕ → Reply
-outcome_reply o.New events = plain k.new events 0
-outcome_reply o.Replaced events = plain k.replaced events 0
-outcome_reply o.Removed events = plain k.removed events 0
-outcome_reply o.Absent events = plain k.absent events 0
-outcome_reply (o.Found value) events = plain k.found events value
-outcome_reply (o.Refused why) events = refused why
+abbrev pub outcome_reply : Result Outcome Refusal → ℕ → Reply
+outcome_reply (Ok o.New) events = plain k.new events 0
+outcome_reply (Ok o.Replaced) events = plain k.replaced events 0
+outcome_reply (Ok o.Removed) events = plain k.removed events 0
+outcome_reply (Ok o.Absent) events = plain k.absent events 0
+outcome_reply (Ok (o.Found value)) events = plain k.found events value
+outcome_reply (Err why) events = refused why
 
 -- put and delete: the outcome, and the events planned for it
-abbrev pub answer_reply : Answer → Reply
-answer_reply answer = outcome_reply answer.outcome answer.events
+abbrev pub answer_reply : Result Answer Refusal → Reply
+answer_reply answer = outcome_reply (outcome_of answer) (events_of answer)
 
 -- format: the events planned
-abbrev pub format_reply : Formatted → Reply
-format_reply (f.Planned events) = plain k.formatted events 0
-format_reply (f.Refused why) = refused why
+abbrev pub format_reply : Result ℕ Refusal → Reply
+format_reply (Ok events) = plain k.formatted events 0
+format_reply (Err why) = refused why
 
 -- recover: "Clean, no events", or "Recovered with the pair count c", the events planned and the pairs
-abbrev pub recovery_reply : Recovery → Reply
-recovery_reply r.Clean = plain k.clean 0 0
-recovery_reply (r.Recovered pairs events) = plain k.recovered events pairs
-recovery_reply (r.Refused why) = refused why
+abbrev pub recovery_reply : Result Recovery Refusal → Reply
+recovery_reply (Ok r.Clean) = plain k.clean 0 0
+recovery_reply (Ok (r.Recovered pairs events)) = plain k.recovered events pairs
+recovery_reply (Err why) = refused why
 
 -- carrying out one event: done, with that event counted
 abbrev pub carried_reply : Carried → Reply
@@ -55,7 +54,7 @@ carried_reply e.Done = plain k.done 1 0
 carried_reply (e.Refused why) = refused why
 
 -- check: "Sound (nodes, records)", "or Fault with the first met", the node that is named
-abbrev pub verdict : Checked → Verdict
-verdict (c.Sound nodes records) = record { kind = k.sound; number = nodes; records = records }
-verdict (c.Fault node) = record { kind = k.fault; number = node; records = 0 }
-verdict (c.Refused why) = record { kind = k.refused; number = number why; records = 0 }
+abbrev pub verdict : Result Checked Refusal → Verdict
+verdict (Ok (c.Sound nodes records)) = record { kind = k.sound; number = nodes; records = records }
+verdict (Ok (c.Fault node)) = record { kind = k.fault; number = node; records = 0 }
+verdict (Err why) = record { kind = k.refused; number = number why; records = 0 }

@@ -2,9 +2,7 @@
 ghost use Rattle.words.specs.Carry.{CarryAllPromise};
 ghost use Rattle.exports.specs.Promises as p;
 
-use crate::replies::{
-    answer_reply, carried_reply, format_reply, outcome_reply, recovery_reply, verdict,
-};
+use crate::replies::{carried_reply, format_reply, outcome_reply};
 use crate::reply::{Reply, Verdict};
 
 pub fn ombykape_format(pool: &[u64], list: &mut [u64], capacity: u64) -> Reply
@@ -16,7 +14,7 @@ pub fn ombykape_format(pool: &[u64], list: &mut [u64], capacity: u64) -> Reply
 pub fn ombykape_recover(pool: &[u64], list: &mut [u64]) -> Reply
     ensures { p.RecoverPromise pool.now list.old result list.new }
 {
-    recovery_reply(pool::recover(pool, list))
+    Reply::from(pool::recover(pool, list))
 }
 
 pub fn ombykape_fetch(pool: &[u64], key: u64) -> Reply
@@ -28,19 +26,19 @@ pub fn ombykape_fetch(pool: &[u64], key: u64) -> Reply
 pub fn ombykape_put(pool: &[u64], list: &mut [u64], key: u64, value: u64) -> Reply
     ensures { p.PutPromise pool.now list.old key value result list.new }
 {
-    answer_reply(pool::put(pool, list, key, value))
+    Reply::from(pool::put(pool, list, key, value))
 }
 
 pub fn ombykape_delete(pool: &[u64], list: &mut [u64], key: u64) -> Reply
     ensures { p.DeletePromise pool.now list.old key result list.new }
 {
-    answer_reply(pool::delete(pool, list, key))
+    Reply::from(pool::delete(pool, list, key))
 }
 
 pub fn ombykape_check(pool: &[u64], marks: &mut [u8]) -> Verdict
     ensures { p.CheckPromise pool.now marks.old result marks.new }
 {
-    verdict(pool::check(pool, marks))
+    Verdict::from(pool::check(pool, marks))
 }
 
 pub fn ombykape_carry_out(pool: &mut [u64], list: &[u64], n: u64) -> Reply

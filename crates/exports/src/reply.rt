@@ -1,6 +1,7 @@
 // What the exported calls answer, as words that C and Rust read alike.
 ghost use Rattle.std.specs.Prelude.{◌≡◌};
 ghost use Rattle.words.specs.Kinds as k;
+ghost use Rattle.exports.specs.Replies as d;
 
 // A kind of answer, the events planned (of carrying out, done), and the value found, the pairs replayed or the number of the refusal.
 #[repr(C)]
@@ -9,6 +10,18 @@ pub struct Reply {
     pub kind: u64,
     pub events: u64,
     pub value: u64,
+}
+
+impl Reply {
+    pub fn new(kind: u64, events: u64, value: u64) -> Reply
+        ensures { result ≡ d.plain kind events value }
+    {
+        Reply {
+            kind,
+            events,
+            value,
+        }
+    }
 }
 
 // Of a check: the nodes, the node at fault or the number of the refusal; then the records.

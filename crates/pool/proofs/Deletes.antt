@@ -3,6 +3,7 @@ use Prim.Native.Nat.{ℕ}
 use mathlib.Core.Path.{◌≡◌, sym, ◌∙◌}
 use mathlib.Core.List.{List}
 use mathlib.Core.Bool.{true, false}
+use Rattle.std.specs.Prelude.{Ok}
 use Rattle.words.specs.Blocks.{once}
 use Rattle.node.specs.Lists.{remove}
 use Rattle.node.specs.Slot.{names, slot}
@@ -19,6 +20,6 @@ module _ {m : List ℕ} {key : ℕ} {s : Seat} (a : AtLeaf m key s) (above : Lis
   delete_absent t = rw (sym a.seated.there_is ∙ t)
 
   pub delete_removed : s.there ≡ true → {k w : ℕ} → k ≡ slot_at s.leaf → w ≡ slot (remove s.rank (names s.slot))
-      → delete_at m key s.leaf above ≡ record { answer = Removed; events = once k w }
+      → delete_at m key s.leaf above ≡ record { answer = Ok Removed; events = once k w }
   unfolding delete_at
   delete_removed t k w = rw (sym a.seated.there_is ∙ t, k, w, a.seated.rank_is, a.names_are)

@@ -5,11 +5,14 @@ use mathlib.Core.Logic.{◌⊎◌, inl, inr, ⊎_elim}
 use mathlib.Core.List.{List}
 use native.Mathlib.Omega.{arith}
 use lib.ListN.{length, take}
+use borrow.Author.Tests.{le-ltb}
+use Rattle.std.specs.Prelude.{Ok}
 use Rattle.words.specs.Pool as p
 use Rattle.words.specs.Event.{Event, run, top_byte}
 use Rattle.words.specs.Written.{written}
 use Rattle.words.specs.Loss.{Cut}
 use Rattle.words.specs.Cuts.{Found}
+use Rattle.words.proofs.Tests.{within_of}
 use Rattle.words.proofs.Events.{stores_of, run_off, length_run}
 use Rattle.words.proofs.Agree.{Agree}
 use Rattle.words.proofs.Listed.{written_lists, carried_all}
@@ -19,12 +22,10 @@ use Rattle.tree.specs.WellFormed.{WellFormed}
 use Rattle.tree.specs.Map.{Map, find, map_of}
 use Rattle.tree.proofs.Form.{Form, form}
 use Rattle.change.specs.declared.Request.{Request}
-use Rattle.change.specs.declared.Formatted.{Formatted}
-use Rattle.change.specs.declared.Formatted.TheVariants.{Planned as Formatting}
 use Rattle.change.specs.declared.Recovery.{Recovery}
 use Rattle.change.specs.declared.Recovery.TheVariants.{Clean}
 use Rattle.change.specs.Gate.{Planned, quiet}
-use Rattle.change.specs.Format.{format_events, format}
+use Rattle.change.specs.Format.{format_events, format_past_list, format}
 use Rattle.change.specs.Recover.{recover, recovery}
 use Rattle.change.specs.Calls.{serve, key_of}
 use Rattle.change.specs.Rule.{empty}
@@ -32,6 +33,7 @@ use Rattle.change.proofs.Counts.{format_count}
 use Rattle.change.proofs.Most.{fits}
 use Rattle.change.proofs.Fresh.{fresh_well_formed, fresh_records}
 use Rattle.change.proofs.Goes.{go_stores, go_inside, go_numbered}
+use Rattle.change.proofs.Refused.{serve_counted}
 use Rattle.change.proofs.Served as served
 use Rattle.change.proofs.Recover.{recover_room}
 use Rattle.change.proofs.Survives.{Accepts, Under, Seen, seen_well_formed, seen_map, total_fits, Survives}
@@ -41,7 +43,6 @@ use Rattle.change.proofs.Told.{told}
 use Rattle.change.proofs.FormatCuts.{FormatLeft, stood, no_pool, emptied, format_safe, format_under, format_cut}
 use Rattle.pool.specs.Demand2.{Holds, CarriedOut, Untouched, KeepsRest, Accepted, Settles, Changes}
 use Rattle.pool.specs.Demand2.{Served, no_room, done, NoPool, Formats, Demand2}
-use Rattle.pool.proofs.Formats.{format_planned}
 
 -- events under a total, within the slice, are written, read back and carried out
 carries : {A : Type 0} {total : ℕ} (q : Planned A) (m l : List ℕ) → total ≤ length m → total ≤ top_byte → Under total q.events
@@ -122,8 +123,9 @@ module _ (m l : List ℕ) (capacity : ℕ) (long : p.list_words ≤ length l) (l
   abbrev fs : List Event
   fs = format_events capacity
 
-  planned : format (length l) (length m) capacity ≡ record { answer = Formatting 20; events = format_events capacity }
-  planned = rw (format_planned (length l) (length m) capacity long low high room, format_count capacity)
+  planned : format (length l) (length m) capacity ≡ record { answer = Ok 20; events = format_events capacity }
+  unfolding format_past_list
+  planned = rw (le-ltb _ _ long, within_of _ _ _ low high, le-ltb _ _ room, format_count capacity)
 
   fresh_holds : Holds (run m (format_events capacity)) empty
   unfolding find
@@ -158,7 +160,7 @@ module _ (m l : List ℕ) (capacity : ℕ) (long : p.list_words ≤ length l) (l
 
   formats : Formats m l capacity (format (length l) (length m) capacity)
   formats =
-      let q : Planned Formatted = record { answer = Formatting 20; events = fs } in
+      let q : Planned ℕ = record { answer = Ok 20; events = fs } in
       let u : Under (p.total_of capacity) fs = format_under capacity low in
       rw planned (record {
         answer = refl;
@@ -183,7 +185,7 @@ demand_2 = record {
   serves = serves;
   rests = λ m w. settles (quiet Clean) w (none_survives w) (holds_own w);
   formats = formats;
-  counts = served.serve_counted;
+  counts = serve_counted;
   few = λ m l q. fits.serves (length l) m q;
   told = told;
 }

@@ -1,37 +1,36 @@
 -- Format, return by return.
 use Prim.Native.Nat.{ℕ, ◌≤◌, ◌<◌}
-use mathlib.Core.Path.{◌≡◌}
-use native.Mathlib.Nat.{lt_irrefl, lt_of_lt_of_le}
+use mathlib.Core.Path.{◌≡◌, ◌∙◌}
+use mathlib.Core.Bool.{true, false}
 use lib.ListN.{length}
 use borrow.Author.Tests.{lt-ltb, le-ltb}
-use Rattle.words.specs.Pool.{list_words, capacity_most, total_of}
-use Rattle.words.specs.declared.refusal.Refusal.TheVariants.{ShortList, BadCapacity, ShortSlice}
-use Rattle.words.proofs.Tests.{within_says, within_of, fails}
-use Rattle.change.specs.declared.Formatted.TheVariants.{Planned}
-use Rattle.change.specs.Format.{format, format_events, format_past_list, refuse}
+use Rattle.std.specs.Prelude.{Ok, Err}
+use Rattle.words.specs.Tests.{within}
+use Rattle.words.specs.Pool.{capacity_most, total_of}
+use Rattle.words.specs.declared.refusal.Refusal.{Refusal}
+use Rattle.words.specs.declared.refusal.Refusal.TheVariants.{BadCapacity, ShortSlice}
+use Rattle.change.specs.Gate.{refused}
+use Rattle.change.specs.Format.{format, format_events, format_past_list}
+use Rattle.pool.proofs.Gates.{list_test, list_shut, list_open}
 
 module _ (room size capacity : ℕ) where
-  pub format_short : room < list_words → format room size capacity ≡ refuse ShortList
-  unfolding format_past_list
-  format_short h = rw (lt-ltb _ _ h)
+  pub format_short : {why : Refusal} → Err why ≡ list_test room → format room size capacity ≡ refused why
+  format_short e = list_shut refused (format_past_list size capacity) room e
 
-  module _ (long : list_words ≤ room) where
-    pub format_none : capacity ≡ 0 → format room size capacity ≡ refuse BadCapacity
+  module _ {u : Unit {0}} (long : Ok u ≡ list_test room) where
+    past : format room size capacity ≡ format_past_list size capacity
+    past = list_open refused (format_past_list size capacity) room long
+
+    pub format_outside : within 1 capacity capacity_most ≡ false → format room size capacity ≡ refused BadCapacity
     unfolding format_past_list
-    format_none h = rw (le-ltb _ _ long, h)
+    format_outside w = past ∙ rw w
 
-    pub format_big : capacity_most < capacity → format room size capacity ≡ refuse BadCapacity
-    unfolding format_past_list
-    format_big h =
-        let big = fails _ (λ w. lt_irrefl capacity_most (lt_of_lt_of_le h (within_says 1 capacity capacity_most w).1)) in
-        rw (le-ltb _ _ long, big)
-
-    module _ (low : 1 ≤ capacity) (high : capacity ≤ capacity_most) where
-      pub format_small : size < total_of capacity → format room size capacity ≡ refuse ShortSlice
+    module _ (w : within 1 capacity capacity_most ≡ true) where
+      pub format_small : size < total_of capacity → format room size capacity ≡ refused ShortSlice
       unfolding format_past_list
-      format_small h = rw (le-ltb _ _ long, within_of _ _ _ low high, lt-ltb _ _ h)
+      format_small h = past ∙ rw (w, lt-ltb _ _ h)
 
       pub format_planned : total_of capacity ≤ size
-          → format room size capacity ≡ record { answer = Planned (length (format_events capacity)); events = format_events capacity }
+          → format room size capacity ≡ record { answer = Ok (length (format_events capacity)); events = format_events capacity }
       unfolding format_past_list
-      format_planned h = rw (le-ltb _ _ long, within_of _ _ _ low high, le-ltb _ _ h)
+      format_planned h = past ∙ rw (w, le-ltb _ _ h)

@@ -6,6 +6,7 @@ use mathlib.Core.Bool.{true, false}
 use native.Mathlib.Omega.{arith}
 use lib.ListN.{length, take, drop, get_or}
 use borrow.Author.Tests.{lt-ltb, le-ltb, eq-eqb}
+use Rattle.std.specs.Prelude.{Ok}
 use Rattle.words.specs.Pool as p
 use Rattle.words.specs.Event.{at}
 use Rattle.words.specs.declared.refusal.Refusal.TheVariants.{Damaged, NoRoom}
@@ -16,7 +17,7 @@ use Rattle.tree.specs.Header.{capacity_of, used_of, height_of, counts_agree}
 use Rattle.tree.specs.Path.{levels_above, leaf, way_to}
 use Rattle.tree.specs.Lists.{Each}
 use Rattle.tree.specs.declared.descend.Seat.{Seat}
-use Rattle.tree.specs.inner.Descended.{above_of, Reaches, Seated, Pathed}
+use Rattle.tree.specs.inner.Descended.{above_of, Seated, Pathed}
 use Rattle.tree.proofs.Form.{counts}
 use Rattle.tree.proofs.Path.{way_to_counts}
 use Rattle.tree.proofs.Leaves.{AtLeaf, at_leaf}
@@ -26,7 +27,7 @@ use Rattle.change.specs.Steps.{full}
 use Rattle.change.specs.Plan.{plan_events}
 use Rattle.change.specs.Put.{needed, split, put_at}
 use Rattle.pool.specs.inner.Puts.{Full, put_there}
-use Rattle.split.specs.inner.Splitting.{Met, ToSplit}
+use Rattle.split.specs.inner.Splitting.{Met, ToSplit, levels}
 use Rattle.split.proofs.Meets.{way_to_met}
 
 -- a path of a leaf and the nodes above it
@@ -43,9 +44,6 @@ module _ {m : List ℕ} {key : ℕ} {s : Seat} (f : Full m key s) where
 
   pub leaf_there : AtLeaf m key s
   leaf_there = at_leaf m key s f.admitted.form_is seated
-
-  pub reaches : Reaches m key
-  reaches = record { node = s.leaf; above = above; way_is = seated.way_is }
 
   pub counts_hold : counts_agree m ≡ true
   counts_hold = way_to_counts m key seated.way_is
@@ -67,58 +65,60 @@ module _ {m : List ℕ} {key : ℕ} {s : Seat} (f : Full m key s) where
     rest_is : take (levels_above m) (drop 1 path) ≡ above
     rest_is = let e = same_way in cc
 
-    pub levels_are : take (height_of m) path ≡ s.leaf ∷ above
-    levels_are =
+    taken_are : take (height_of m) path ≡ s.leaf ∷ above
+    taken_are =
         let h : height_of m ≡ suc (levels_above m) = omega (arith, (counts m counts_hold).height.0) in
         ap (λ (n : ℕ). take n path) h ∙ path_is path (levels_above m) s.leaf q.eight_is first_is ∙ rw rest_is refl
 
-    pub path_met : ((i : ℕ) → at m i < no_end) → Each (Met m) (take (height_of m) path)
+    -- all of them
+    abbrev all : List ℕ
+    all = levels path (height_of m) (height_of m)
+
+    levels_are : all ≡ s.leaf ∷ above
+    levels_are = let none : height_of m - height_of m ≡ 0 = omega arith in rw none taken_are
+
+    pub path_met : ((i : ℕ) → at m i < no_end) → Each (Met m) all
     path_met words = rw levels_are (way_to_met m key words f.admitted.form_is seated.way_is)
 
-    pub to_split : ((i : ℕ) → at m i < no_end) → {size : ℕ} → p.list_words ≤ size
-        → needed m (take (height_of m) path) ≤ p.height_most
-        → needed m (take (height_of m) path) ≤ capacity_of m - used_of m
-        → ToSplit m path (height_of m) s.slot s.rank key size
-    to_split words room few free =
-        let c = counts m counts_hold in
-        record {
-          form = f.admitted.form_is;
-          counts = counts_hold;
-          words = room;
-          high = c.height.1;
-          some = c.height.0;
-          nodes = path_met words;
-          slot_is = seated.slot_is ∙ rw first_is refl;
-          full_is = rw first_is full_is;
-          rank_is = seated.rank_is ∙ rw first_is refl;
-          need = few;
-          free = free;
-        }
+    -- the nodes that are needed, as they were counted
+    module _ {n : ℕ} (counted : n ≡ needed m all) where
+      needed_is : n ≡ needed m (s.leaf ∷ above)
+      needed_is = counted ∙ rw levels_are refl
 
-    -- the returns: too few nodes, too many levels, or split
-    module _ (value : ℕ) where
-      pub full_crowded : capacity_of m - used_of m < needed m (take (height_of m) path) → put_there m key value s ≡ refused NoRoom
-      unfolding put_at
-      full_crowded h =
-          let short : capacity_of m - used_of m < needed m (s.leaf ∷ above) = rw levels_are at h in
-          rw (absent_is, full_is, lt-ltb _ _ short)
-
-      pub full_high : needed m (take (height_of m) path) ≤ capacity_of m - used_of m
-          → p.height_most < needed m (take (height_of m) path) → put_there m key value s ≡ refused Damaged
-      unfolding put_at
-      full_high h k =
-          let room : needed m (s.leaf ∷ above) ≤ capacity_of m - used_of m = rw levels_are at h in
-          let high : p.height_most < needed m (s.leaf ∷ above) = rw levels_are at k in
-          rw (absent_is, full_is, le-ltb _ _ room, lt-ltb _ _ high)
-
-      pub full_split : needed m (take (height_of m) path) ≤ capacity_of m - used_of m
-          → needed m (take (height_of m) path) ≤ p.height_most
-          → put_there m key value s ≡ record {
-            answer = New;
-            events = plan_events (split m (get_or path 0 0) (drop 1 (take (height_of m) path)) (key, value));
+      pub to_split : ((i : ℕ) → at m i < no_end) → {size : ℕ} → p.list_words ≤ size → n ≤ p.height_most
+          → n ≤ capacity_of m - used_of m → ToSplit m path (height_of m) s.slot s.rank key size
+      to_split words room few free =
+          let c = counts m counts_hold in
+          let same : needed m (take (height_of m) path) ≡ n = rw (taken_are, needed_is) refl in
+          record {
+            form = f.admitted.form_is;
+            counts = counts_hold;
+            words = room;
+            high = c.height.1;
+            some = c.height.0;
+            nodes = rw (taken_are ∙ sym levels_are) (path_met words);
+            slot_is = seated.slot_is ∙ rw first_is refl;
+            full_is = rw first_is full_is;
+            rank_is = seated.rank_is ∙ rw first_is refl;
+            need = rw same few;
+            free = rw same free;
           }
-      unfolding put_at
-      full_split h k =
-          let room : needed m (s.leaf ∷ above) ≤ capacity_of m - used_of m = rw levels_are at h in
-          let few : needed m (s.leaf ∷ above) ≤ p.height_most = rw levels_are at k in
-          rw (levels_are, first_is, absent_is, full_is, le-ltb _ _ room, le-ltb _ _ few)
+
+      -- the returns: too few nodes, too many levels, or split
+      module _ (value : ℕ) where
+        pub full_crowded : capacity_of m - used_of m < n → put_there m key value s ≡ refused NoRoom
+        unfolding put_at
+        full_crowded h = rw (absent_is, full_is, lt-ltb _ _ (rw needed_is at h))
+
+        pub full_high : n ≤ capacity_of m - used_of m → p.height_most < n → put_there m key value s ≡ refused Damaged
+        unfolding put_at
+        full_high h k = rw (absent_is, full_is, le-ltb _ _ (rw needed_is at h), lt-ltb _ _ (rw needed_is at k))
+
+        pub full_split : n ≤ capacity_of m - used_of m → n ≤ p.height_most
+            → put_there m key value s ≡ record {
+              answer = Ok New;
+              events = plan_events (split m (get_or path 0 0) (drop 1 (take (height_of m) path)) (key, value));
+            }
+        unfolding put_at
+        full_split h k =
+            rw (taken_are, first_is, absent_is, full_is, le-ltb _ _ (rw needed_is at h), le-ltb _ _ (rw needed_is at k))

@@ -8,6 +8,7 @@ use mathlib.Core.Option.{Option, none, some}
 use native.Mathlib.Omega.{arith}
 use lib.ListN.{length, take, replicate, length-replicate}
 use lib.Dec.{T, eqb}
+use Rattle.std.specs.Prelude.{Ok, Err}
 use Rattle.words.specs.Pool.{list_words, capacity_most, total_of}
 use Rattle.words.specs.Kinds as k
 use Rattle.words.specs.Answers.{Said}
@@ -21,7 +22,7 @@ use Rattle.tree.specs.WellFormed.{WellFormed}
 use Rattle.tree.specs.Map.{map_of}
 use Rattle.change.specs.declared.Request.TheVariants.{Put}
 use Rattle.change.specs.declared.Outcome.{Outcome}
-use Rattle.change.specs.declared.Outcome.TheVariants.{New, Replaced, Refused}
+use Rattle.change.specs.declared.Outcome.TheVariants.{New, Replaced}
 use Rattle.change.specs.Answers.{outcome_says}
 use Rattle.change.specs.Gate.{Planned, refused}
 use Rattle.change.specs.Recover.{recovery}
@@ -76,7 +77,7 @@ module _ (l : List ℕ) (size : length l ≡ list_words) where
     where
       not_refused : put (length l) (seven 3) 80 80 ≡ refused NoRoom → ⊥
       not_refused e =
-          let x : (k.new, 0, []) ≡ outcome_says (Refused NoRoom)
+          let x : (k.new, 0, []) ≡ outcome_says (Err NoRoom)
           = answer_new ∙ ap (λ (q : Planned Outcome). outcome_says q.answer) (rw size at e) in
           omega (arith, ap (λ (s : Said). s.0) x)
 
@@ -93,12 +94,12 @@ module _ (l : List ℕ) (size : length l ≡ list_words) where
   pub crowded_80 : LacksRoom (seven 2) 80
   crowded_80 = go (demand_2.serves (seven 2) l (Put 80 80) (seven_well_formed 2 (omega arith) (omega arith)) long (omega arith))
     where
-      by_rule : (o : Option ℕ) → (put (length l) (seven 2) 80 80).answer ≡ by_presence New Replaced o → ⊥
+      by_rule : (o : Option ℕ) → (put (length l) (seven 2) 80 80).answer ≡ Ok (by_presence New Replaced o) → ⊥
       by_rule none e =
-          let x : (k.refused, 5, []) ≡ outcome_says New = answer_five ∙ ap outcome_says (rw size at e) in
+          let x : (k.refused, 5, []) ≡ outcome_says (Ok New) = answer_five ∙ ap outcome_says (rw size at e) in
           omega (arith, ap (λ (s : Said). s.0) x)
       by_rule (some v) e =
-          let x : (k.refused, 5, []) ≡ outcome_says Replaced = answer_five ∙ ap outcome_says (rw size at e) in
+          let x : (k.refused, 5, []) ≡ outcome_says (Ok Replaced) = answer_five ∙ ap outcome_says (rw size at e) in
           omega (arith, ap (λ (s : Said). s.0) x)
 
       go : Served (seven 2) l (Put 80 80) → LacksRoom (seven 2) 80

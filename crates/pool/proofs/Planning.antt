@@ -1,42 +1,39 @@
 -- An answer with its events, as a call returns it and leaves the lent list.
 use Prim.Native.Nat.{ℕ}
 use mathlib.Core.Path.{◌≡◌, refl, ◌∙◌, ap}
-use mathlib.Core.List.{List}
+use mathlib.Core.List.{List, []}
 use native.Mathlib.Nat.{zero-add}
 use lib.ListN.{length}
+use Rattle.std.specs.Prelude.{Result, Ok}
 use Rattle.words.specs.Event.{Event}
 use Rattle.words.specs.Written.{written, Wrote}
+use Rattle.words.specs.declared.refusal.Refusal.{Refusal}
 use Rattle.change.specs.declared.Outcome.{Outcome}
-use Rattle.change.specs.declared.Answer.{Answer}
-use Rattle.change.specs.Gate.{Planned, quiet, list_after, answered}
+use Rattle.change.specs.Gate.{Planned, list_after, with_count, answered}
 
 -- what is answered says what the promise says of it
 pub said : {A B : Type 0} (says : A → B) {r a : A} {l x : List ℕ} → (r ≡ a) × (l ≡ x) → (says r ≡ says a) × (l ≡ x)
 said says h = (ap says h.0, h.1)
 
 -- no events: the list is as it was
-pub quietly : {A : Type 0} (p : Planned A) (a : A) (l : List ℕ) → p ≡ quiet a → (a ≡ p.answer) × (l ≡ list_after p l)
+pub quietly : {A : Type 0} (p : Planned A) (r : Result A Refusal) (l : List ℕ) → p ≡ record { answer = r; events = [] }
+    → (r ≡ p.answer) × (l ≡ list_after p l)
 unfolding written
-quietly p a l e = rw e (refl, refl)
+quietly p r l e = rw e (refl, refl)
 
 -- events written from the first on: their number is in the answer, and the list has them
 pub planned : {A : Type 0} (p : Planned A) (f : ℕ → A) (es : List Event) {l l' : List ℕ} {r : ℕ}
-    → p ≡ record { answer = f (length es); events = es } → Wrote es 0 l r l' → (f r ≡ p.answer) × (l' ≡ list_after p l)
-planned p f es e w = rw e (ap f (w.next ∙ zero-add (length es)), w.list)
+    → p ≡ record { answer = Ok (f (length es)); events = es } → Wrote es 0 l r l' → (Ok (f r) ≡ p.answer) × (l' ≡ list_after p l)
+planned p f es e w = rw e (ap (λ (n : ℕ). Ok (f n)) (w.next ∙ zero-add (length es)), w.list)
 
 -- the same of an outcome with its event count
-pub quiet_answer : (p : Planned Outcome) (o : Outcome) {a : Answer} (l : List ℕ) → a ≡ answered (quiet o) → p ≡ quiet o
-    → (a ≡ answered p) × (l ≡ list_after p l)
+pub quiet_answer : (p : Planned Outcome) (r : Result Outcome Refusal) (l : List ℕ) → p ≡ record { answer = r; events = [] }
+    → (with_count r 0 ≡ answered p) × (l ≡ list_after p l)
 unfolding written
-quiet_answer p o l a e = rw (e, a) (refl, refl)
+quiet_answer p r l e = rw e (refl, refl)
 
 pub planned_answer : (p : Planned Outcome) (o : Outcome) (es : List Event) {l l' : List ℕ} {r : ℕ}
-    → p ≡ record { answer = o; events = es } → Wrote es 0 l r l'
-    → (◌≡◌ {A = Answer} (record { outcome = o; events = r }) (answered p)) × (l' ≡ list_after p l)
+    → p ≡ record { answer = Ok o; events = es } → Wrote es 0 l r l'
+    → (Ok (record { outcome = o; events = r }) ≡ answered p) × (l' ≡ list_after p l)
 planned_answer p o es e w =
-    rw e (ap (λ (n : ℕ). record { outcome = o; events = n }) (w.next ∙ zero-add (length es)), w.list)
-
--- what another call answered and wrote for the same plan
-pub passed_on : (p q : Planned Outcome) {a : Answer} (l : List ℕ) {l' : List ℕ} → p ≡ q → (a ≡ answered q) × (l' ≡ list_after q l)
-    → (a ≡ answered p) × (l' ≡ list_after p l)
-passed_on p q l e h = rw e h
+    rw e (ap (λ (n : ℕ). Ok (record { outcome = o; events = n })) (w.next ∙ zero-add (length es)), w.list)

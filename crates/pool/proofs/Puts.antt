@@ -1,19 +1,21 @@
 -- Put at the leaf: the events of a present key and of a leaf that is not full, and the returns.
-use Prim.Native.Nat.{ℕ, ◌<◌}
+use Prim.Native.Nat.{ℕ, ◌≤◌, ◌<◌}
 use mathlib.Core.Path.{◌≡◌, sym, ◌∙◌, ap}
 use mathlib.Core.List.{List, [], ◌∷◌}
 use mathlib.Core.Bool.{true, false}
 use native.Mathlib.Omega.{arith}
 use lib.ListN.{get_or, length}
 use borrow.Author.Tests.{ne_eqb}
+use Rattle.std.specs.Prelude.{Ok}
 use Rattle.words.specs.Pool.{line}
 use Rattle.words.specs.Event.{store, flush, fence}
 use Rattle.words.specs.Blocks.{once}
 use Rattle.words.specs.Written.{Wrote}
 use Rattle.words.proofs.Written.{wrote_append}
-use Rattle.node.specs.Lists.{insert}
+use Rattle.node.specs.Lists.{insert, all_below}
 use Rattle.node.specs.Slot.{count, names, slot, entries, spot}
 use Rattle.node.specs.View.{View, view, slot_at, key_at, value_at}
+use Rattle.node.proofs.Every.{below_at}
 use Rattle.node.proofs.Slots.{length_names}
 use Rattle.tree.specs.declared.descend.Seat.{Seat}
 use Rattle.tree.proofs.Leaves.{AtLeaf}
@@ -22,17 +24,18 @@ use Rattle.change.specs.Put.{replace_events, fill_events, put_at}
 use Rattle.change.proofs.Lines.{entry_stored}
 use Rattle.pool.specs.inner.Puts.{Says}
 
-module _ {u : View} {w key place : ℕ} (s : Says u w key place) (k value : ℕ) where
-  pub replaced : {e v n : ℕ} {l l' : List ℕ} → e ≡ get_or (names w) place 0 → v ≡ value_at k e → Wrote (once v value) 0 l n l'
-      → Wrote (replace_events k u (key, value)) 0 l n l'
-  replaced e v o = rw (s.names_are, s.rank_is, ← e, ← v) o
+-- the entry of a place that a slot word names
+pub entry_low : (w place : ℕ) {e : ℕ} → (place < count w) × (count w ≤ entries) × (all_below entries (names w) ≡ true)
+    → e ≡ get_or (names w) place 0 → e < entries
+entry_low w place b e = rw e (below_at entries place (names w) b.2 (rw length_names b.0))
 
-  pub filled : {e : ℕ} → e ≡ spot (names w) → {x v f a b n n₁ n₂ n₃ n₄ : ℕ} {l l₁ l₂ l₃ l₄ l₅ : List ℕ}
-      → x ≡ key_at k e → v ≡ value_at k e → f ≡ line v → a ≡ slot_at k → b ≡ slot (insert place e (names w))
+module _ {u : View} {key : ℕ} {s : Seat} (h : Says u key s) (value : ℕ) where
+  pub filled : {e : ℕ} → e ≡ spot (names s.slot) → {x v f a b n n₁ n₂ n₃ n₄ : ℕ} {l l₁ l₂ l₃ l₄ l₅ : List ℕ}
+      → x ≡ key_at s.leaf e → v ≡ value_at s.leaf e → f ≡ line v → a ≡ slot_at s.leaf → b ≡ slot (insert s.rank e (names s.slot))
       → Wrote (store x key ∷ []) 0 l n₁ l₁ → Wrote (store v value ∷ []) n₁ l₁ n₂ l₂ → Wrote (flush f ∷ []) n₂ l₂ n₃ l₃
-      → Wrote (fence ∷ []) n₃ l₃ n₄ l₄ → Wrote (once a b) n₄ l₄ n l₅ → Wrote (fill_events k u (key, value)) 0 l n l₅
+      → Wrote (fence ∷ []) n₃ l₃ n₄ l₄ → Wrote (once a b) n₄ l₄ n l₅ → Wrote (fill_events s.leaf u (key, value)) 0 l n l₅
   filled {e} spot_is x v f a b c₁ c₂ c₃ c₄ c₅ =
-      rw (s.names_are, s.rank_is, ← spot_is, entry_stored k e (key, value), ← b, ← x, ← v, ← f, ← a)
+      rw (h.names_are, h.rank_is, ← spot_is, entry_stored s.leaf e (key, value), ← b, ← x, ← v, ← f, ← a)
       (wrote_append c₁ (wrote_append c₂ (wrote_append c₃ (wrote_append c₄ c₅))))
 
 -- the returns of a leaf that has the key, or room for it
@@ -40,7 +43,7 @@ module _ {m : List ℕ} {key : ℕ} {s : Seat} (a : AtLeaf m key s) where
   abbrev u : View
   u = view m s.leaf
 
-  pub leaf_says : Says u s.slot key s.rank
+  pub leaf_says : Says u key s
   leaf_says = record { names_are = a.names_are; rank_is = sym a.seated.rank_is }
 
   named_count : length u.named ≡ count s.slot
@@ -48,11 +51,11 @@ module _ {m : List ℕ} {key : ℕ} {s : Seat} (a : AtLeaf m key s) where
 
   module _ (value : ℕ) (above : List ℕ) where
     pub put_present : s.there ≡ true
-        → put_at m key value s.leaf above ≡ record { answer = Replaced; events = replace_events s.leaf u (key, value) }
+        → put_at m key value s.leaf above ≡ record { answer = Ok Replaced; events = replace_events s.leaf u (key, value) }
     unfolding put_at
     put_present t = rw (sym a.seated.there_is ∙ t)
 
     pub put_room : s.there ≡ false → count s.slot < entries
-        → put_at m key value s.leaf above ≡ record { answer = New; events = fill_events s.leaf u (key, value) }
+        → put_at m key value s.leaf above ≡ record { answer = Ok New; events = fill_events s.leaf u (key, value) }
     unfolding put_at
     put_room t h = rw (sym a.seated.there_is ∙ t, ne_eqb (length u.named) entries (λ e. omega (arith, named_count)))

@@ -1,54 +1,34 @@
 -- Recover: the test of its log, turn by turn, what (d) and (e) are handed, and its returns.
 use Prim.Native.Nat.{ℕ, ◌+◌, ◌-◌, ◌*◌, ◌≤◌, ◌<◌}
-use mathlib.Core.Path.{◌≡◌, refl, sym, ◌∙◌}
+use mathlib.Core.Path.{◌≡◌, sym, ◌∙◌}
 use mathlib.Core.List.{List, [], ◌∷◌}
-use mathlib.Core.Bool.{Bool, true, false, and-false, not, ◌&&◌}
+use mathlib.Core.Bool.{Bool, true, false, not, ◌&&◌}
 use native.Mathlib.Omega.{arith}
 use lib.ListN.{length}
 use lib.Dec.{leb, ltb}
-use borrow.Author.Tests.{le-leb, lt-leb, lt-ltb, le-ltb, ltb-true, leb-true, leb-false, eq-eqb, ne_eqb}
+use borrow.Author.Tests.{le-leb, lt-leb, ltb-true, eq-eqb, ne_eqb}
+use Rattle.std.specs.Prelude.{Ok, Err}
 use Rattle.words.specs.Tests.{within}
 use Rattle.words.specs.Pool as p
 use Rattle.words.specs.Event.{Event, at}
 use Rattle.words.specs.Blocks.{Pair}
-use Rattle.words.specs.declared.refusal.Refusal.TheVariants.{ShortList, NoPool, BadLog}
+use Rattle.words.specs.declared.refusal.Refusal.{Refusal}
+use Rattle.words.specs.declared.refusal.Refusal.TheVariants.{BadLog}
 use Rattle.words.proofs.Tests.{both}
 use Rattle.words.proofs.Turns.{turn, over}
 use Rattle.tree.specs.Header.{total_in, commit_of, form_agrees}
 use Rattle.tree.proofs.Form.{Form, form}
 use Rattle.change.specs.declared.Recovery.TheVariants.{Clean, Recovered}
-use Rattle.change.specs.Gate.{quiet, past_form}
+use Rattle.change.specs.Gate.{quiet, refused, past_form}
 use Rattle.change.specs.Plan.{log_finished}
-use Rattle.change.specs.Recover.{log_pairs, may_store, all_may_store, log_agrees, refuse, recover_past_form, recover}
+use Rattle.change.specs.Recover.{log_pairs, may_store, all_may_store, log_agrees, recover_past_form, recover}
 use Rattle.change.proofs.Recover.{log_says}
 use Rattle.split.specs.inner.Splitting.{Near}
-use Rattle.pool.proofs.Gates.{short_list, long_list, no_pool, a_pool}
+use Rattle.pool.proofs.Gates.{list_test, form_test, list_shut, list_open, form_shut, form_open}
 
--- a pair's address
-module _ (total w : ℕ) where
-  pub low_word : w < p.used_at → false ≡ may_store total w
-  low_word h = rw (lt-leb p.used_at w h)
-
-  pub past_total : total ≤ w → false ≡ may_store total w
-  past_total h = rw (le-ltb w total h, and-false)
-
-  module _ (low : p.used_at ≤ w) (high : w < total) where
-    pub header_word : w < p.log_at → true ≡ may_store total w
-    header_word h = rw (le-leb p.used_at w low, lt-ltb w total high, lt-leb p.log_at w h)
-
-    pub node_word : p.log_at ≤ w → leb p.nodes_at w ≡ may_store total w
-    node_word h = go (leb p.nodes_at w) refl
-      where
-        go : (b : Bool) → leb p.nodes_at w ≡ b → b ≡ may_store total w
-        go true t =
-            let past : p.nodes_at - 1 < w = omega (arith, leb-true p.nodes_at w t) in
-            rw (le-leb p.used_at w low, lt-ltb w total high, le-leb p.log_at w h, lt-leb w (p.nodes_at - 1) past)
-        go false t =
-            let in_log : w ≤ p.nodes_at - 1 = omega (arith, leb-false p.nodes_at w t) in
-            rw (le-leb p.used_at w low, lt-ltb w total high, le-leb p.log_at w h, le-leb w (p.nodes_at - 1) in_log)
-
-  pub may_store_low : may_store total w ≡ true → w < total
-  may_store_low t = ltb-true w total (both {a = leb p.used_at w && not (within p.log_at w (p.nodes_at - 1))} {b = ltb w total} t).1
+may_store_low : (total w : ℕ) → may_store total w ≡ true → w < total
+may_store_low total w t =
+    ltb-true w total (both {a = leb p.used_at w && not (within p.log_at w (p.nodes_at - 1))} {b = ltb w total} t).1
 
 -- where pair i of the log stands
 abbrev pub pair_at : ℕ → ℕ
@@ -118,32 +98,32 @@ module _ (m : List ℕ) (f : form_agrees m ≡ true) (t : log_agrees m ≡ true)
 
 -- the returns
 module _ (room : ℕ) (m : List ℕ) where
-  pub recover_short : room < p.list_words → recover room m ≡ refuse ShortList
-  recover_short h = short_list refuse (past_form refuse m (recover_past_form m)) room h
+  pub recover_short : {why : Refusal} → Err why ≡ list_test room → recover room m ≡ refused why
+  recover_short e = list_shut refused (past_form refused m (recover_past_form m)) room e
 
-  module _ (long : p.list_words ≤ room) where
-    opened : recover room m ≡ past_form refuse m (recover_past_form m)
-    opened = long_list refuse (past_form refuse m (recover_past_form m)) room long
+  module _ {u : Unit {0}} (long : Ok u ≡ list_test room) where
+    opened : recover room m ≡ past_form refused m (recover_past_form m)
+    opened = list_open refused (past_form refused m (recover_past_form m)) room long
 
-    pub recover_no_pool : form_agrees m ≡ false → recover room m ≡ refuse NoPool
-    recover_no_pool f = opened ∙ no_pool refuse (recover_past_form m) m f
+    pub recover_no_pool : {why : Refusal} → Err why ≡ form_test m → recover room m ≡ refused why
+    recover_no_pool e = opened ∙ form_shut refused (recover_past_form m) m e
 
-    module _ (f : form_agrees m ≡ true) where
+    module _ {v : Unit {0}} (formed : Ok v ≡ form_test m) where
       past : recover room m ≡ recover_past_form m
-      past = opened ∙ a_pool refuse (recover_past_form m) m f
+      past = opened ∙ form_open refused (recover_past_form m) m formed
 
       pub recover_clean : commit_of m ≡ 0 → recover room m ≡ quiet Clean
       unfolding recover_past_form
       recover_clean z = past ∙ rw (eq-eqb (commit_of m) 0 z)
 
       module _ (some : commit_of m ≡ 0 → ⊥) where
-        pub recover_bad_log : log_agrees m ≡ false → recover room m ≡ refuse BadLog
+        pub recover_bad_log : log_agrees m ≡ false → recover room m ≡ refused BadLog
         unfolding recover_past_form
         recover_bad_log t = past ∙ rw (ne_eqb (commit_of m) 0 some, t)
 
         abbrev es : List Event
         es = log_finished (log_pairs (commit_of m) p.pairs_at m)
 
-        pub recover_done : log_agrees m ≡ true → recover room m ≡ record { answer = Recovered (commit_of m) (length es); events = es }
+        pub recover_done : log_agrees m ≡ true → recover room m ≡ record { answer = Ok (Recovered (commit_of m) (length es)); events = es }
         unfolding recover_past_form
         recover_done t = past ∙ rw (ne_eqb (commit_of m) 0 some, t)

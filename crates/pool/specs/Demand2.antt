@@ -1,6 +1,6 @@
 -- Demand 2, as a type: the user's words stand at its end, clause by clause, and the parts they name above it. Throughout, m is the words
 -- of a pool, l a lent list, f the map before a change and g the map after it.
-use Rattle.std.specs.Prelude.{ℕ, ◌+◌, ◌*◌, ◌≤◌, ◌<◌, ◌≡◌, ◌⊎◌, List, [], length, take}
+use Rattle.std.specs.Prelude.{ℕ, ◌+◌, ◌*◌, ◌≤◌, ◌<◌, ◌≡◌, ◌⊎◌, List, [], length, take, Ok, Err}
 use Rattle.words.specs.Pool.{form_at, pairs_most, capacity_most, list_words, events_most, total_of}
 use Rattle.words.specs.Event.{Event, at, run}
 use Rattle.words.specs.Written.{Lists}
@@ -14,10 +14,7 @@ use Rattle.tree.specs.Header.{total_in}
 use Rattle.tree.specs.WellFormed.{WellFormed}
 use Rattle.tree.specs.Map.{Map, map_of}
 use Rattle.change.specs.declared.Request.{Request}
-use Rattle.change.specs.declared.Formatted.{Formatted}
-use Rattle.change.specs.declared.Formatted.TheVariants.{Planned as Formatting}
-use Rattle.change.specs.declared.Recovery.TheVariants.{Refused}
-use Rattle.change.specs.Gate.{Planned, list_after, refused}
+use Rattle.change.specs.Gate.{Planned, events_of, list_after, refused}
 use Rattle.change.specs.Format.{format}
 use Rattle.change.specs.Recover.{recover, recovery}
 use Rattle.change.specs.Room.{Crowded}
@@ -49,7 +46,7 @@ pub record KeepsRest (total : ℕ) (m m' : List ℕ) : Type 0 where
 -- "Recovery accepts it": with a lent list l it is not refused, plans the same events as with any other, at most 31 pairs'
 -- worth, and they can be carried out; after the last of them every word is safe
 pub record Accepted (m l : List ℕ) : Type 0 where
-  pub unrefused : (why : Refusal) → (recover (length l) m).answer ≡ Refused why → ⊥
+  pub unrefused : (why : Refusal) → (recover (length l) m).answer ≡ Err why → ⊥
   pub plans : (recover (length l) m).events ≡ recovery m
   pub few : length (recovery m) ≤ 2 * pairs_most + 4
   pub carried : CarriedOut (recover (length l) m) m l (run m (recovery m))
@@ -78,7 +75,7 @@ pub record Changes {A : Type 0} (m l : List ℕ) (p : Planned A) (f g : Map) : T
 -- and so it is refused nothing
 pub data Served (m l : List ℕ) (q : Request) : Type 0 where
   no_room : Crowded m q → serve (length l) m q ≡ refused NoRoom → Served m l q
-  done : ¬ Crowded m q → (serve (length l) m q).answer ≡ (rule q (map_of m)).0
+  done : ¬ Crowded m q → (serve (length l) m q).answer ≡ Ok (rule q (map_of m)).0
       → Changes m l (serve (length l) m q) (map_of m) (rule q (map_of m)).1 → Served m l q
 
 -- refusal 2, "word 0 not 1"
@@ -87,8 +84,8 @@ NoPool m = at m form_at ≡ 0
 
 -- the plan p of format on whatever memory m: "20 events. Cut, it leaves what stood there or no pool (to event 2), no pool (3 to 17), no
 -- pool or the empty one (18, 19)."
-pub record Formats (m l : List ℕ) (capacity : ℕ) (p : Planned Formatted) : Type 0 where
-  pub answer : p.answer ≡ Formatting 20
+pub record Formats (m l : List ℕ) (capacity : ℕ) (p : Planned ℕ) : Type 0 where
+  pub answer : p.answer ≡ Ok 20
   pub count : length p.events ≡ 20
   pub carried : CarriedOut p m l (run m p.events)
   pub holds : Holds (run m p.events) empty
@@ -113,7 +110,7 @@ pub record Demand2 : Type 0 where
   pub formats : (m l : List ℕ) (capacity : ℕ) → list_words ≤ length l → 1 ≤ capacity → capacity ≤ capacity_most
       → total_of capacity ≤ length m → Formats m l capacity (format (length l) (length m) capacity)
   -- "the list itself, its length the count", on whatever memory
-  pub counts : (m l : List ℕ) (q : Request) → (serve_answer m l q).events ≡ length (serve (length l) m q).events
+  pub counts : (m l : List ℕ) (q : Request) → events_of (serve_answer m l q) ≡ length (serve (length l) m q).events
   -- no request plans more than the 186 events of the largest split, on whatever memory
   pub few : (m l : List ℕ) (q : Request) → length (serve (length l) m q).events ≤ events_most
   -- 01's counts, and what recover and check answer, on whatever memory

@@ -1,31 +1,26 @@
 // Delete: a leaf's slot word without the name of a key.
 ghost use Rattle.pool.specs.Promises.{DeletePromise};
 
-use crate::answers::quiet;
-use crate::gate::{Gate, pass_gate};
+use crate::gate::{pass_gate, pass_list};
 use change::{Answer, Outcome};
 use node::slot::without_name;
 use words::{Pool, Refusal, write_once};
 
-pub fn delete(pool: &[u64], list: &mut [u64], key: u64) -> Answer
+pub fn delete(pool: &[u64], list: &mut [u64], key: u64) -> Result<Answer, Refusal>
     ensures { DeletePromise pool.now list.old key result list.new }
 {
-    if (list.len() as u64) < Pool::LIST_WORDS {
-        return quiet(Outcome::Refused(Refusal::ShortList));
+    pass_list(list)?;
+    let seat = pass_gate(pool, key)?;
+    if !seat.there {
+        return Ok(Answer {
+            outcome: Outcome::Absent,
+            events: 0,
+        });
     }
-    let gate = pass_gate(pool, key);
-    match gate {
-        Gate::Refused(why) => quiet(Outcome::Refused(why)),
-        Gate::Passed(seat) => {
-            if !seat.there {
-                return quiet(Outcome::Absent);
-            }
-            let slot = without_name(seat.slot, seat.rank);
-            let events = write_once(list, 0, Pool::node_at(seat.leaf), slot);
-            Answer {
-                outcome: Outcome::Removed,
-                events,
-            }
-        }
-    }
+    let slot = without_name(seat.slot, seat.rank);
+    let events = write_once(list, 0, Pool::node_at(seat.leaf), slot);
+    Ok(Answer {
+        outcome: Outcome::Removed,
+        events,
+    })
 }

@@ -6,7 +6,7 @@ ghost use Rattle.change.specs.Format.{format_events};
 ghost use Rattle.pool.specs.Promises.{FormatPromise};
 ghost use Rattle.pool.specs.inner.Formatting.{header_events, leaf_events};
 
-use change::Formatted;
+use crate::gate::pass_list;
 use words::{Pool, Refusal, write_fence, write_flush, write_once, write_store};
 
 // The header's words 1 to 7.
@@ -48,20 +48,15 @@ fn format_events(list: &mut [u64], capacity: u64) -> u64
 }
 
 // Plans an empty pool of a capacity into the list. It reads nothing of the slice but its length.
-pub fn format(pool: &[u64], list: &mut [u64], capacity: u64) -> Formatted
+pub fn format(pool: &[u64], list: &mut [u64], capacity: u64) -> Result<u64, Refusal>
     ensures { FormatPromise pool.now list.old capacity result list.new }
 {
-    if (list.len() as u64) < Pool::LIST_WORDS {
-        return Formatted::Refused(Refusal::ShortList);
-    }
-    if capacity == 0 {
-        return Formatted::Refused(Refusal::BadCapacity);
-    }
-    if Pool::CAPACITY_MOST < capacity {
-        return Formatted::Refused(Refusal::BadCapacity);
+    pass_list(list)?;
+    if !(1..=Pool::CAPACITY_MOST).contains(&capacity) {
+        return Err(Refusal::BadCapacity);
     }
     if (pool.len() as u64) < Pool::total_of(capacity) {
-        return Formatted::Refused(Refusal::ShortSlice);
+        return Err(Refusal::ShortSlice);
     }
-    Formatted::Planned(format_events(list, capacity))
+    Ok(format_events(list, capacity))
 }

@@ -1,7 +1,6 @@
 // The calls on one pool, a module each.
 #![tactic(auto)]
 
-mod answers;
 mod checking;
 mod crowded;
 mod deleting;

@@ -8,9 +8,8 @@ ghost use Rattle.pool.specs.Promises.{PutPromise};
 ghost use Rattle.pool.specs.inner.Passing.{Admitted};
 ghost use Rattle.pool.specs.inner.Puts.{Replaces, Fills, put_there};
 
-use crate::answers::quiet;
 use crate::crowded::put_full;
-use crate::gate::{Gate, pass_gate};
+use crate::gate::{pass_gate, pass_list};
 use change::{Answer, Outcome};
 use node::Node;
 use node::slot::{count, name, spot, with_name};
@@ -18,61 +17,65 @@ use tree::descend::Seat;
 use words::{Pool, Refusal, write_fence, write_flush, write_once, write_store};
 
 // A present key: its value is stored.
-fn replace(list: &mut [u64], leaf: u64, slot: u64, rank: u64, value: u64) -> u64
-    requires list_words_in_bounds { (p.list_words ≤ length list.old) × (leaf ≤ p.capacity_most) }
-    requires rank_bound { (rank < s.count slot) × (s.count slot ≤ s.entries) × (all_below s.entries (s.names slot) ≡ true) }
-    ensures { Replaces leaf slot rank value list.old result list.new }
+fn replace(list: &mut [u64], seat: Seat, value: u64) -> u64
+    requires list_words_in_bounds { (p.list_words ≤ length list.old) × (seat.leaf ≤ p.capacity_most) }
+    requires rank_bound { (seat.rank < s.count seat.slot) × (s.count seat.slot ≤ s.entries)
+        × (all_below s.entries (s.names seat.slot) ≡ true) }
+    ensures { Replaces seat value list.old result list.new }
 {
-    let word = Node::value_at(leaf, name(slot, rank));
+    let word = Node::value_at(seat.leaf, name(seat.slot, seat.rank));
     write_once(list, 0, word, value)
 }
 
 // A leaf that is not full: key and value into the lowest unused entry, then the slot word.
-fn fill(list: &mut [u64], leaf: u64, slot: u64, rank: u64, key: u64, value: u64) -> u64
-    requires { (p.list_words ≤ length list.old) × (leaf ≤ p.capacity_most) × (rank ≤ s.count slot) × (s.count slot < s.entries) }
-    ensures { Fills leaf slot rank (key, value) list.old result list.new }
+fn fill(list: &mut [u64], seat: Seat, key: u64, value: u64) -> u64
+    requires { (p.list_words ≤ length list.old) × (seat.leaf ≤ p.capacity_most) × (seat.rank ≤ s.count seat.slot)
+        × (s.count seat.slot < s.entries) }
+    ensures { Fills seat (key, value) list.old result list.new }
 {
-    let entry = spot(slot);
-    let word = Node::value_at(leaf, entry);
-    let n1 = write_store(list, 0, Node::key_at(leaf, entry), key);
+    let entry = spot(seat.slot);
+    let word = Node::value_at(seat.leaf, entry);
+    let n1 = write_store(list, 0, Node::key_at(seat.leaf, entry), key);
     let n2 = write_store(list, n1, word, value);
     let n3 = write_flush(list, n2, Pool::line(word));
     let n4 = write_fence(list, n3);
-    write_once(list, n4, Pool::node_at(leaf), with_name(slot, rank, entry))
+    let slot = with_name(seat.slot, seat.rank, entry);
+    write_once(list, n4, Pool::node_at(seat.leaf), slot)
 }
 
 // The leaf of the key was found.
-fn put_at(pool: &[u64], list: &mut [u64], seat: Seat, key: u64, value: u64) -> Answer
+fn put_at(
+    pool: &[u64],
+    list: &mut [u64],
+    seat: Seat,
+    key: u64,
+    value: u64,
+) -> Result<Answer, Refusal>
     requires { Admitted pool.now key seat × (p.list_words ≤ length list.old) }
     ensures answer { result ≡ answered (put_there pool.now key value seat) }
     ensures list { list.new ≡ list_after (put_there pool.now key value seat) list.old }
 {
     if seat.there {
-        let events = replace(list, seat.leaf, seat.slot, seat.rank, value);
-        return Answer {
+        let events = replace(list, seat, value);
+        return Ok(Answer {
             outcome: Outcome::Replaced,
             events,
-        };
+        });
     }
     if count(seat.slot) < Node::ENTRIES {
-        let events = fill(list, seat.leaf, seat.slot, seat.rank, key, value);
-        return Answer {
+        let events = fill(list, seat, key, value);
+        return Ok(Answer {
             outcome: Outcome::New,
             events,
-        };
+        });
     }
     put_full(pool, list, seat, key, value)
 }
 
-pub fn put(pool: &[u64], list: &mut [u64], key: u64, value: u64) -> Answer
+pub fn put(pool: &[u64], list: &mut [u64], key: u64, value: u64) -> Result<Answer, Refusal>
     ensures { PutPromise pool.now list.old key value result list.new }
 {
-    if (list.len() as u64) < Pool::LIST_WORDS {
-        return quiet(Outcome::Refused(Refusal::ShortList));
-    }
-    let gate = pass_gate(pool, key);
-    match gate {
-        Gate::Refused(why) => quiet(Outcome::Refused(why)),
-        Gate::Passed(seat) => put_at(pool, list, seat, key, value),
-    }
+    pass_list(list)?;
+    let seat = pass_gate(pool, key)?;
+    put_at(pool, list, seat, key, value)
 }

@@ -4,25 +4,16 @@ ghost use Rattle.words.specs.Pool as p;
 ghost use Rattle.change.specs.Recover as s;
 ghost use Rattle.pool.specs.Promises.{RecoverPromise};
 
+use crate::gate::{pass_form, pass_list};
 use change::Recovery;
 use split::logging::finish_log;
-use tree::header::form_agrees;
 use words::{Pool, Refusal};
 
 // Whether recovery may store to a word: used, root, height, or a word of a node.
 fn may_store(total: u64, word: u64) -> bool
     ensures { result ≡ s.may_store total word }
 {
-    if word < Pool::USED_AT {
-        return false;
-    }
-    if total <= word {
-        return false;
-    }
-    if word < Pool::LOG_AT {
-        return true;
-    }
-    Pool::NODES_AT <= word
+    (Pool::USED_AT..total).contains(&word) && !(Pool::LOG_AT..Pool::NODES_AT).contains(&word)
 }
 
 // Whether the log has at most 31 pairs, and each address may be stored to.
@@ -35,34 +26,28 @@ fn log_agrees(pool: &[u64]) -> bool
         return false;
     }
     let total = pool[Pool::TOTAL_AT as usize];
-    let mut i: u64 = 0;
-    while i < pairs {
+    for i in 0..pairs {
         let at = (Pool::PAIRS_AT + 2 * i) as usize;
         if !may_store(total, pool[at]) {
             return false;
         }
-        i += 1;
     }
     true
 }
 
 // Plans the rest of an unfinished change. Root and used are not looked at: a cut may have left them apart.
-pub fn recover(pool: &[u64], list: &mut [u64]) -> Recovery
+pub fn recover(pool: &[u64], list: &mut [u64]) -> Result<Recovery, Refusal>
     ensures { RecoverPromise pool.now list.old result list.new }
 {
-    if (list.len() as u64) < Pool::LIST_WORDS {
-        return Recovery::Refused(Refusal::ShortList);
-    }
-    if !form_agrees(pool) {
-        return Recovery::Refused(Refusal::NoPool);
-    }
+    pass_list(list)?;
+    pass_form(pool)?;
     let pairs = pool[Pool::COMMIT_AT as usize];
     if pairs == 0 {
-        return Recovery::Clean;
+        return Ok(Recovery::Clean);
     }
     if !log_agrees(pool) {
-        return Recovery::Refused(Refusal::BadLog);
+        return Err(Refusal::BadLog);
     }
     let events = finish_log(list, 0, pool, Pool::PAIRS_AT, pairs);
-    Recovery::Recovered(pairs, events)
+    Ok(Recovery::Recovered(pairs, events))
 }

@@ -1,59 +1,28 @@
--- Check, return by return: the refusals in their order, then the walk from the root and its end.
-use Prim.Native.Nat.{ℕ, ◌≤◌, ◌<◌}
+-- The walk from the root and its end, return by return.
+use Prim.Native.Nat.{ℕ, ◌≤◌}
 use mathlib.Core.Path.{◌≡◌, refl, sym}
 use mathlib.Core.List.{List}
 use mathlib.Core.Bool.{Bool, true, false, not}
 use native.Mathlib.Omega.{arith}
 use lib.Dec.{eqb}
 use lib.ListN.{length, length-append, length-replicate}
-use borrow.Author.Tests.{lt-ltb, le-ltb, eq-eqb, ne_eqb}
 use Rattle.std.specs.Prelude.{if◌then◌else◌}
 use Rattle.words.specs.Pool.{words_least}
 use Rattle.words.specs.Event.{at}
-use Rattle.words.specs.declared.refusal.Refusal.TheVariants.{NoPool, Unfinished, Damaged, ShortMarks}
 use Rattle.node.specs.View.{link_at}
-use Rattle.tree.specs.Header.{capacity_of, used_of, height_of, commit_of, form_agrees, counts_agree}
+use Rattle.tree.specs.Header.{capacity_of, used_of, height_of}
 use Rattle.tree.specs.Kids.{root_kid, inner_least}
 use Rattle.tree.specs.Path.{levels_above}
 use Rattle.tree.specs.Check as t
 use Rattle.tree.proofs.Form.{Form, form, Counts, counts}
 use Rattle.change.specs.declared.Checked.{Checked}
 use Rattle.change.specs.declared.Checked.TheVariants as checked
-use Rattle.change.specs.Answers.{check_says}
-use Rattle.change.specs.Check.{walked, Examined, refuse, check_past_gate, check}
+use Rattle.change.specs.Check.{walked}
 use Rattle.walk.specs.declared.walking.Seen.{Seen}
 use Rattle.walk.specs.declared.walking.Walk.{Walk}
 use Rattle.walk.specs.declared.walking.Walk.TheVariants.{Fault, Going}
 use Rattle.walk.specs.inner.Checking.{seen_with, Ready, Walks, Passed}
 use Rattle.walk.proofs.Marks.{unmarked_most}
-
--- what is answered and left is what is examined
-pub examined : {e : Examined} {a : Checked} {l : List ℕ} → e ≡ record { answer = a; marks = l }
-    → (check_says a ≡ check_says e.answer) × (l ≡ e.marks)
-examined is = rw is (refl, refl)
-
-module _ (m marks : List ℕ) where
-  pub check_no_pool : form_agrees m ≡ false → check m marks ≡ refuse marks NoPool
-  check_no_pool e = rw e
-
-  module _ (formed : form_agrees m ≡ true) where
-    pub check_unfinished : (commit_of m ≡ 0 → ⊥) → check m marks ≡ refuse marks Unfinished
-    check_unfinished e = rw (formed, ne_eqb (commit_of m) 0 e)
-
-    module _ (clean : commit_of m ≡ 0) where
-      pub check_short : length marks < capacity_of m → check m marks ≡ refuse marks ShortMarks
-      unfolding check_past_gate
-      check_short h = rw (formed, eq-eqb (commit_of m) 0 clean, lt-ltb (length marks) (capacity_of m) h)
-
-      module _ (long : capacity_of m ≤ length marks) where
-        pub check_damaged : counts_agree m ≡ false → check m marks ≡ refuse marks Damaged
-        unfolding check_past_gate
-        check_damaged e = rw (formed, eq-eqb (commit_of m) 0 clean, le-ltb (length marks) (capacity_of m) long, e)
-
-        pub check_walked : counts_agree m ≡ true → {a : Checked} {l : List ℕ}
-            → a ≡ walked (t.walk m marks) → l ≡ t.marks_after (t.walk m marks) → check m marks ≡ record { answer = a; marks = l }
-        unfolding check_past_gate
-        check_walked e p q = rw (formed, eq-eqb (commit_of m) 0 clean, le-ltb (length marks) (capacity_of m) long, e, p, q)
 
 -- the tests at the end leave the marks as they are
 end_marks : (m : List ℕ) (s : t.Seen) → t.marks_after (t.ended m s) ≡ s.marks

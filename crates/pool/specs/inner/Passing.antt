@@ -1,13 +1,12 @@
 -- What the tests before every call on a key, and the way down, have shown.
-use Rattle.std.specs.Prelude.{ℕ, ◌≡◌, List, true}
+use Rattle.std.specs.Prelude.{ℕ, ◌≡◌, List, true, Result, Ok, Err}
+use Rattle.words.specs.declared.refusal.Refusal.{Refusal}
 use Rattle.tree.specs.Header.{commit_of, form_agrees}
 use Rattle.tree.specs.Path.{way_to}
 use Rattle.tree.specs.inner.Descended.{Seated}
 use Rattle.tree.specs.declared.descend.Seat.{Seat}
 use Rattle.change.specs.declared.Outcome.{Outcome}
 use Rattle.change.specs.Gate.{Planned, refused, past_gate, at_leaf}
-use Rattle.pool.specs.declared.gate.Gate.{Gate}
-use Rattle.pool.specs.declared.gate.Gate.TheVariants.{Refused, Passed}
 
 -- the tests passed, and the way down to a key found its leaf
 pub record Admitted (m : List ℕ) (key : ℕ) (s : Seat) : Type 0 where
@@ -16,6 +15,6 @@ pub record Admitted (m : List ℕ) (key : ℕ) (s : Seat) : Type 0 where
   pub seated : Seated m key s
 
 -- the call is refused, whatever it does at a leaf; or it goes on at the leaf
-abbrev pub Gated : List ℕ → ℕ → Gate → Type 0
-Gated m key (Refused why) = (body : ℕ → List ℕ → Planned Outcome) → past_gate refused m (at_leaf body (way_to m key)) ≡ refused why
-Gated m key (Passed s) = Admitted m key s
+abbrev pub Gated : List ℕ → ℕ → Result Seat Refusal → Type 0
+Gated m key (Err why) = (body : ℕ → List ℕ → Planned Outcome) → past_gate refused m (at_leaf body (way_to m key)) ≡ refused why
+Gated m key (Ok s) = Admitted m key s

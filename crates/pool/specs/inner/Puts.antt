@@ -11,19 +11,18 @@ use Rattle.change.specs.Gate.{Planned}
 use Rattle.change.specs.Put.{replace_events, fill_events, put_at}
 use Rattle.pool.specs.inner.Passing.{Admitted}
 
--- a leaf that says u has the slot word w, and a key its place there
-pub record Says (u : View) (w key place : ℕ) : Type 0 where
-  pub names_are : u.named ≡ names w
-  pub rank_is : rank u key ≡ place
+-- a leaf that says u has this slot word, and a key its place there
+pub record Says (u : View) (key : ℕ) (s : Seat) : Type 0 where
+  pub names_are : u.named ≡ names s.slot
+  pub rank_is : rank u key ≡ s.rank
 
--- a step handed the list l wrote the events of a present key's put, whatever node and key it stands for
-abbrev pub Replaces : ℕ → ℕ → ℕ → ℕ → List ℕ → ℕ → List ℕ → Type 0
-Replaces k w place value l r l' =
-    (u : View) (key : ℕ) → Says u w key place → Wrote (replace_events k u (key, value)) 0 l r l'
+-- a step handed the list l wrote the events of a present key's put, whatever leaf and key the seat stands for
+abbrev pub Replaces : Seat → ℕ → List ℕ → ℕ → List ℕ → Type 0
+Replaces s value l r l' = (u : View) (key : ℕ) → Says u key s → Wrote (replace_events s.leaf u (key, value)) 0 l r l'
 
 -- and those of a put into a leaf that is not full
-abbrev pub Fills : ℕ → ℕ → ℕ → Record → List ℕ → ℕ → List ℕ → Type 0
-Fills k w place x l r l' = (u : View) → Says u w x.0 place → Wrote (fill_events k u x) 0 l r l'
+abbrev pub Fills : Seat → Record → List ℕ → ℕ → List ℕ → Type 0
+Fills s x l r l' = (u : View) → Says u x.0 s → Wrote (fill_events s.leaf u x) 0 l r l'
 
 -- the way down to a key found its leaf, which is full and has not the key
 pub record Full (m : List ℕ) (key : ℕ) (s : Seat) : Type 0 where

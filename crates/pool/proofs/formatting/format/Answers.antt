@@ -1,30 +1,33 @@
 -- `pool::format` meets its contract: each return goes by the tests before it.
-use native.Mathlib.Omega.{arith}
-use Rattle.change.specs.declared.Formatted.TheVariants.{Planned}
+use mathlib.Core.Path.{◌≡◌}
+use mathlib.Core.Bool.{true, false}
+use Rattle.std.proofs.Common.{arith}
+use Rattle.std.proofs.lemmas.Grind.{common_steps}
+use Rattle.std.proofs.lemmas.Result.{err_from_is_err_and}
+use Rattle.words.specs.Tests.{within}
+use Rattle.words.specs.Pool.{capacity_most}
 use Rattle.change.specs.Answers.{format_says}
 use Rattle.pool.proofs.Planning.{said, quietly, planned}
-use Rattle.pool.proofs.Formats.{format_short, format_none, format_big, format_small, format_planned}
+use Rattle.pool.proofs.Formats.{format_short, format_outside, format_small, format_planned}
 use Rattle.pool.proofs.formatting.format.Goals as goal
 
-pub returns-then-list-lt-LIST_WORDS : goal.returns-then-list-lt-LIST_WORDS
-returns-then-list-lt-LIST_WORDS c = said format_says (quietly _ _ _ (format_short _ _ _ c.if-list-lt-LIST_WORDS.true))
+pub returns-in_err-pass_list : goal.returns-in_err-pass_list
+returns-in_err-pass_list c =
+    let p = err_from_is_err_and c.from_residual.result c.from_residual.ensures.1 in
+    rw (p.1, p.2) (said format_says (quietly _ _ _ (format_short _ _ _ c.in_err-pass_list.ensures)))
 
-pub returns-then-capacity-eq0 : goal.returns-then-capacity-eq0
-returns-then-capacity-eq0 c = said format_says (quietly _ _ _ (format_none _ _ _ c.if-list-lt-LIST_WORDS.false c.if-capacity-eq0.true))
-
-pub returns-then-capacity-gt-CAPACITY_MOST : goal.returns-then-capacity-gt-CAPACITY_MOST
-returns-then-capacity-gt-CAPACITY_MOST c
-    = said format_says (quietly _ _ _ (format_big _ _ _ c.if-list-lt-LIST_WORDS.false c.if-capacity-gt-CAPACITY_MOST.true))
+pub returns-then-not-contains : goal.returns-then-not-contains
+returns-then-not-contains c =
+    let w : within 1 c.args.capacity capacity_most ≡ false = grind (arith, common_steps) in
+    said format_says (quietly _ _ _ (format_outside _ _ _ c.in_ok-pass_list.ensures w))
 
 pub returns-then-pool-total_of : goal.returns-then-pool-total_of
 returns-then-pool-total_of c =
-    let long = c.if-list-lt-LIST_WORDS.false in
-    let small = rw c.total_of.ensures at c.if-pool-total_of.true in
-    said format_says (quietly _ _ _ (format_small _ _ _ long (omega arith) c.if-capacity-gt-CAPACITY_MOST.false small))
+    let w : within 1 c.args.capacity capacity_most ≡ true = grind (arith, common_steps) in
+    said format_says (quietly _ _ _ (format_small _ _ _ c.in_ok-pass_list.ensures w (rw c.total_of.ensures at c.if-pool-total_of.true)))
 
 pub returns : goal.returns
 returns c =
-    let long = c.if-list-lt-LIST_WORDS.false in
-    let room = rw c.total_of.ensures at c.if-pool-total_of.false in
-    let e = format_planned _ _ _ long (omega arith) c.if-capacity-gt-CAPACITY_MOST.false room in
-    said format_says (planned _ Planned _ e c.format_events.ensures)
+    let w : within 1 c.args.capacity capacity_most ≡ true = grind (arith, common_steps) in
+    let e = format_planned _ _ _ c.in_ok-pass_list.ensures w (rw c.total_of.ensures at c.if-pool-total_of.false) in
+    said format_says (planned _ (λ events. events) _ e c.format_events.ensures)

@@ -1,26 +1,17 @@
 -- `pool::put` meets its contract: each return goes by the tests before it.
+use Rattle.std.proofs.lemmas.Result.{err_from_is_err_and}
 use Rattle.change.specs.Answers.{answer_says}
-use Rattle.pool.proofs.Planning.{said, quiet_answer, passed_on}
-use Rattle.pool.proofs.Gates.{shut, admitted, call_short, call_shut, call_at}
+use Rattle.pool.proofs.Planning.{said, quiet_answer}
+use Rattle.pool.proofs.Gates.{call_short, call_shut}
 use Rattle.pool.proofs.putting.put.Goals as goal
 
-pub returns-then-list-lt-LIST_WORDS : goal.returns-then-list-lt-LIST_WORDS
-returns-then-list-lt-LIST_WORDS c
-    = said answer_says (quiet_answer _ _ _ c.quiet.ensures (call_short _ _ _ _ c.if-list-lt-LIST_WORDS.true))
+pub returns-in_err-pass_list : goal.returns-in_err-pass_list
+returns-in_err-pass_list c =
+    let p = err_from_is_err_and c.from_residual.result c.from_residual.ensures.1 in
+    rw (p.1, p.2) (said answer_says (quiet_answer _ _ _ (call_short _ _ _ _ c.in_err-pass_list.ensures)))
 
-pub put_at-requires : goal.put_at-requires
-put_at-requires c =
-    (admitted _ _ c.pass_gate-gate.ensures c.in-Passed.is, c.if-list-lt-LIST_WORDS.false)
-
-pub returns-in-Refused : goal.returns-in-Refused
-returns-in-Refused c =
-    said answer_says (quiet_answer _ _ _ c.quiet-in-Refused.ensures
-    (call_shut _ _ _ _ c.if-list-lt-LIST_WORDS.false (shut _ _ c.pass_gate-gate.ensures c.in-Refused.is)))
-
-pub returns-in-Passed : goal.returns-in-Passed
-returns-in-Passed c =
-    let p = admitted _ _ c.pass_gate-gate.ensures c.in-Passed.is in
-    said answer_says (passed_on _ _ _ (call_at _ _ _ _ c.if-list-lt-LIST_WORDS.false p) (
-      c.put_at.ensures.answer,
-      c.put_at.ensures.list,
-    ))
+pub returns-in_err-seat : goal.returns-in_err-seat
+returns-in_err-seat c =
+    let p = err_from_is_err_and c.from_residual-in_err-seat.result c.from_residual-in_err-seat.ensures.1 in
+    rw (p.1, p.2)
+    (said answer_says (quiet_answer _ _ _ (call_shut _ _ _ _ c.in_ok-pass_list.ensures c.in_err-seat.ensures)))

@@ -1,4 +1,3 @@
-use Prim.Native.Nat.{◌-◌, ◌≤◌}
 use mathlib.Core.Path.{◌≡◌}
 use Rattle.words.specs.Pool.{pairs_at}
 use Rattle.change.specs.Recover.{log_pairs, all_may_store}
@@ -7,8 +6,4 @@ use Rattle.pool.proofs.recovering.log_agrees.Given as goal
 
 abbrev pub invariant-loop-i : goal.invariant-loop-i
 invariant-loop-i l =
-    (l.i ≤ l.pairs)
-    × (all_may_store l.total (log_pairs l.pairs pairs_at l.pool) ≡ all_may_store l.total (from l.pool l.pairs l.i))
-
-abbrev pub decreases-loop-i : goal.decreases-loop-i
-decreases-loop-i l = l.pairs - l.i
+    all_may_store l.total (log_pairs l.pairs pairs_at l.pool) ≡ all_may_store l.total (from l.pool l.pairs l.i)
