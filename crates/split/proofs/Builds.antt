@@ -8,7 +8,7 @@ use lib.ListN.{length, get_or, drop, length-append, length-drop, drop_of_length-
 use lib.Seq.{drop-cons}
 use Rattle.words.specs.Lists.{count_from}
 use Rattle.words.specs.Pool.{line}
-use Rattle.words.specs.Event.{flush}
+use Rattle.words.specs.declared.event.Event.TheVariants.{Flush as flush}
 use Rattle.words.specs.Blocks.{stores, stored}
 use Rattle.words.specs.Written.{Wrote}
 use Rattle.words.proofs.Written.{wrote_append}

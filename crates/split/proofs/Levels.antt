@@ -10,7 +10,8 @@ use lib.Seq.{drop-cons, length-take-le, get_or-take}
 use lib.Dec.{ltb}
 use Rattle.std.specs.Prelude.{if◌then◌else◌}
 use Rattle.words.specs.Pool.{line, used_at}
-use Rattle.words.specs.Event.{flush, at}
+use Rattle.words.specs.declared.event.Event.TheVariants.{Flush as flush}
+use Rattle.words.specs.Event.{at}
 use Rattle.words.specs.Blocks.{Pair, stores, stored}
 use Rattle.words.specs.Written.{written, Wrote}
 use Rattle.words.proofs.Written.{wrote_append}

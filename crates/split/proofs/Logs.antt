@@ -7,7 +7,8 @@ use native.Mathlib.Omega.{arith}
 use lib.ListN.{length}
 use Rattle.words.specs.Lists.{count_from}
 use Rattle.words.specs.Pool.{line, log_at, commit_at, pairs_at}
-use Rattle.words.specs.Event.{store, flush, fence, at, top_byte}
+use Rattle.words.specs.declared.event.Event.TheVariants.{Store as store, Flush as flush, Fence as fence}
+use Rattle.words.specs.Event.{at, top_byte}
 use Rattle.words.specs.Blocks.{Pair, once, stores, flushes, stored, replay}
 use Rattle.words.specs.Written.{Wrote}
 use Rattle.words.proofs.Turns.{turn, over}

@@ -4,7 +4,7 @@ use mathlib.Core.Path.{◌≡◌, refl}
 use mathlib.Core.List.{List, [], ◌++◌}
 use native.Mathlib.Omega.{arith}
 use lib.ListN.{length, length-append}
-use Rattle.words.specs.Event.{Event}
+use Rattle.words.specs.declared.event.Event.{Event}
 use Rattle.words.specs.Written.{written, Wrote}
 use Rattle.words.proofs.Written.{written_append}
 

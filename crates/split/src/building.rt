@@ -2,7 +2,7 @@
 ghost use Rattle.std.specs.Prelude.{[], ◌∷◌, ◌++◌, ◌+◌, ◌≤◌, length, drop};
 ghost use Rattle.words.specs.Lists.{count_from};
 ghost use Rattle.words.specs.Pool as p;
-ghost use Rattle.words.specs.Event.{flush};
+ghost use Rattle.words.specs.declared.event.Event.TheVariants.{Flush as flush};
 ghost use Rattle.words.specs.Blocks.{stores, stored};
 ghost use Rattle.words.specs.Written.{Wrote};
 ghost use Rattle.node.specs.Slot.{slot, entries};

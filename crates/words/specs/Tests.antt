@@ -1,5 +1,5 @@
 -- Tests by which definitions choose.
-use Rattle.std.specs.Prelude.{ℕ, Bool, true, false, ◌&&◌, leb}
+use Rattle.std.specs.Prelude.{ℕ, Bool, ◌&&◌, leb}
 
 -- x is low to high, both ends included
 abbrev pub within : ℕ → ℕ → ℕ → Bool
