@@ -1,22 +1,26 @@
 -- The conditions of 01's table that look at the lent words alone: each is what the test of its definition tells.
 use Prim.Native.Nat.{ℕ, zero, suc, ◌+◌, ◌-◌, ◌*◌, ◌/◌, ◌≤◌, ◌<◌}
-use mathlib.Core.Path.{◌≡◌}
+use mathlib.Core.Path.{◌≡◌, refl}
 use mathlib.Core.Logic.{◌⊎◌, inl, inr}
 use mathlib.Core.List.{List}
-use mathlib.Core.Bool.{Bool, false, not, ◌&&◌}
-use mathlib.Core.Option.{Option, none, some}
+use mathlib.Core.Bool.{Bool, true, false, not, ◌&&◌}
 use native.Mathlib.Omega.{arith}
 use lib.ListN.{length}
 use lib.Dec.{eqb}
-use Rattle.std.specs.Prelude.{if◌then◌else◌}
-use Rattle.words.specs.Event.{Event, store, flush, fence, at, event_of, event_at}
-use Rattle.words.specs.Carry.{inside}
+use Rattle.std.specs.Prelude.{if◌then◌else◌, Option, Some, None, Ok, Err}
+use Rattle.words.specs.declared.event.Event.{Event}
+use Rattle.words.specs.declared.event.Event.TheVariants.{Store as store, Flush as flush, Fence as fence}
+use Rattle.words.specs.Event.{at, event_of, event_at}
+use Rattle.words.specs.Answers.{carried_says}
+use Rattle.words.specs.Carry.{inside, carried}
+use Rattle.words.specs.declared.refusal.Refusal.TheVariants.{NoEvent}
 use Rattle.words.proofs.Fails.{Fails, breaks, keeps, fails_and, fails_by, fails_equal, fails_less, fails_most, fails_within, not_fails}
 use Rattle.words.proofs.Fails.{not_out, not_tells, out_in, tells_most}
 use Rattle.words.proofs.Tests.{Tells, is, isnt, tells_equal, tells_and}
 use Rattle.tree.specs.Header.{form_agrees, counts_agree, commit_of, total_in}
 use Rattle.change.specs.Recover.{log_pairs, may_store, all_may_store, log_agrees}
 use Rattle.change.specs.Conditions as w
+use Rattle.change.specs.Conditions.{Says}
 
 module _ (m : List ℕ) where
   abbrev SomeForm : Type 0
@@ -128,8 +132,8 @@ tells_log m = go (tells_equal (at m 8) 0) (not_tells (fails_log m))
 
 -- 12: an event that can be carried out
 abbrev pub carries : List ℕ → Option Event → Bool
-carries m none = false
-carries m (some e) = inside m e
+carries m None = false
+carries m (Some e) = inside m e
 
 module _ (m l : List ℕ) (n : ℕ) where
   abbrev kind : ℕ
@@ -152,8 +156,8 @@ module _ (m l : List ℕ) (n : ℕ) where
     fails_kind = go (tells_equal kind 1) (tells_equal kind 2) (tells_equal kind 3)
       where
         go : {a b c : Bool} → Tells (kind ≡ 1) a → Tells (kind ≡ 2) b → Tells (kind ≡ 3) c
-            → Fails (w.NoEvent m l n) (carries m (if a then some (store word (at l (2 * n - 1)))
-            else if b then some (flush word) else if c then some fence else none))
+            → Fails (w.NoEvent m l n) (carries m (if a then Some (store word (at l (2 * n - 1)))
+            else if b then Some (flush word) else if c then Some fence else None))
         go (is p) b c =
             fails_by (w.word p) (rest (length m ≤ word) (λ o. absurd (out_in o (omega arith) (omega arith))) (λ e h. h)
             (λ e h. absurd (omega arith))) (fails_less word (length m))
@@ -171,7 +175,20 @@ module _ (m l : List ℕ) (n : ℕ) where
   fails_event = go (fails_within 1 n (length l / 2))
     where
       go : {a : Bool} → Fails (w.Outside 1 n (length l / 2)) a
-          → Fails (w.NoEvent m l n) (carries m (if a then event_of kind word (at l (2 * n - 1)) else none))
+          → Fails (w.NoEvent m l n) (carries m (if a then event_of kind word (at l (2 * n - 1)) else None))
       go (breaks (inl h)) = breaks (w.none (inl (omega arith)))
       go (breaks (inr h)) = breaks (w.none (inr (omega arith)))
       go (keeps p) = let i = not_out 1 n (length l / 2) p in fails_kind i.0 (omega (arith, i.1))
+
+-- so carrying out answers the number that its rows say
+pub carry_numbers : (m l : List ℕ) (n : ℕ) → Says (w.carry_rows m l n) (carried_says (carried m (event_at l n))).1
+carry_numbers m l n = go (event_at l n) (fails_event m l n)
+  where
+    go : (x : Option Event) → Fails (w.NoEvent m l n) (carries m x) → Says (w.carry_rows m l n) (carried_says (carried m x)).1
+    go None (breaks c) = inl (c, refl)
+    go (Some e) f = at_slice (inside m e) f
+      where
+        at_slice : (b : Bool) → Fails (w.NoEvent m l n) b
+            → Says (w.carry_rows m l n) (carried_says (if b then Ok tt else Err NoEvent)).1
+        at_slice true (keeps h) = inr (h, refl)
+        at_slice false (breaks c) = inl (c, refl)

@@ -9,13 +9,9 @@ use lib.ListN.{length}
 use lib.Dec.{ltb, eqb}
 use Rattle.std.specs.Prelude.{if◌then◌else◌, Ok}
 use Rattle.words.specs.Pool.{height_most}
-use Rattle.words.specs.Event.{Event, event_at}
-use Rattle.words.specs.Answers.{carried_says}
-use Rattle.words.specs.Carry.{carried, inside}
 use Rattle.words.specs.declared.refusal.Refusal.{Refusal}
-use Rattle.words.specs.declared.refusal.Refusal.TheVariants.{NoPool, Unfinished, Damaged, NoRoom, BadLog, NoEvent}
-use Rattle.words.specs.declared.carry.Carried.TheVariants.{Done, Refused}
-use Rattle.words.proofs.Fails.{row, Fails, breaks, keeps, not_tells, tells_less, fails_equal, fails_within}
+use Rattle.words.specs.declared.refusal.Refusal.TheVariants.{NoPool, Unfinished, Damaged, NoRoom, BadLog}
+use Rattle.words.proofs.Fails.{row, not_tells, tells_less, fails_equal, fails_within}
 use Rattle.words.proofs.Tests.{Tells, is, isnt}
 use Rattle.node.specs.Lists.{has}
 use Rattle.node.specs.View.{view, keys}
@@ -40,7 +36,7 @@ use Rattle.change.specs.Calls as calls
 use Rattle.change.specs.Conditions as w
 use Rattle.change.specs.Conditions.{Rows, Says}
 use Rattle.change.proofs.Conditions.{fails_form}
-use Rattle.change.proofs.Conditions.{fails_counts, tells_log, carries, fails_event}
+use Rattle.change.proofs.Conditions.{fails_counts, tells_log}
 use Rattle.change.proofs.Refused.{outcome_answered}
 use Rattle.change.proofs.ConditionsPath.{lost, tells_damaged}
 use Rattle.change.proofs.ConditionsRoom.{tells_no_room, tells_eight}
@@ -157,15 +153,3 @@ check_numbers m marks =
     ended : (x : Walk) → (check_says (Ok (walked x))).1 ≡ 0
     ended (fault k g) = refl
     ended (going s) = refl
-
-pub carry_numbers : (m l : List ℕ) (n : ℕ) → Says (w.carry_rows m l n) (carried_says (carried m (event_at l n))).1
-carry_numbers m l n = go (event_at l n) (fails_event m l n)
-  where
-    go : (x : Option Event) → Fails (w.NoEvent m l n) (carries m x) → Says (w.carry_rows m l n) (carried_says (carried m x)).1
-    go none (breaks c) = inl (c, refl)
-    go (some e) f = at_slice (inside m e) f
-      where
-        at_slice : (b : Bool) → Fails (w.NoEvent m l n) b
-            → Says (w.carry_rows m l n) (carried_says (if b then Done else Refused NoEvent)).1
-        at_slice true (keeps h) = inr (h, refl)
-        at_slice false (breaks c) = inl (c, refl)

@@ -10,7 +10,9 @@ use lib.ListN.{length, take}
 use lib.Seq.{take_all, get_or-set_same}
 use Rattle.words.specs.Tests.{within}
 use Rattle.words.specs.Pool as p
-use Rattle.words.specs.Event.{Event, fence, at, run}
+use Rattle.words.specs.declared.event.Event.{Event}
+use Rattle.words.specs.declared.event.Event.TheVariants.{Fence as fence}
+use Rattle.words.specs.Event.{at, run}
 use Rattle.words.specs.Blocks.{Pair, once, lines, stored}
 use Rattle.words.specs.Loss.{Safe, Cut}
 use Rattle.words.proofs.Tests.{within_says}

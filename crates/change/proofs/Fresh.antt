@@ -6,7 +6,8 @@ use native.Mathlib.Omega.{arith}
 use lib.ListN.{length, set, length-set}
 use lib.Seq.{get_or-set_same, get_or-set_other}
 use Rattle.words.specs.Pool as p
-use Rattle.words.specs.Event.{at, run, fence}
+use Rattle.words.specs.declared.event.Event.TheVariants.{Fence as fence}
+use Rattle.words.specs.Event.{at, run}
 use Rattle.words.specs.Blocks.{once, stores, stored}
 use Rattle.words.proofs.Events.{run_append, length_run}
 use Rattle.words.proofs.Blocks.{run_stored}

@@ -10,7 +10,9 @@ use lib.Dec.{eqb}
 use borrow.Author.Tests.{lt-ltb}
 use Rattle.std.specs.Prelude.{if◌then◌else◌}
 use Rattle.words.specs.Pool.{line, line_words, log_at, nodes_at, commit_at, pairs_at, pairs_most}
-use Rattle.words.specs.Event.{Event, store, flush, fence, top_byte}
+use Rattle.words.specs.declared.event.Event.{Event}
+use Rattle.words.specs.declared.event.Event.TheVariants.{Store as store, Flush as flush, Fence as fence}
+use Rattle.words.specs.Event.{top_byte}
 use Rattle.words.specs.Blocks.{Pair, once, stores, flushes, lines, stored, replay}
 use Rattle.words.proofs.Events.{Stores}
 use Rattle.words.proofs.Listed.{Numbered, Inside}

@@ -7,7 +7,8 @@ use mathlib.Core.Option.{none, some}
 use native.Mathlib.Omega.{arith}
 use lib.ListN.{length, get_or, set, length-map}
 use Rattle.words.specs.Pool.{node_words, node_at}
-use Rattle.words.specs.Event.{at, run, fence}
+use Rattle.words.specs.declared.event.Event.TheVariants.{Fence as fence}
+use Rattle.words.specs.Event.{at, run}
 use Rattle.words.specs.Blocks.{Pair, once, stores, stored}
 use Rattle.words.proofs.Events.{run_append, length_run, run_off}
 use Rattle.words.proofs.Blocks.{stores_stores, run_stored}

@@ -6,7 +6,9 @@ use mathlib.Core.List.{List, [], ◌∷◌, ◌++◌, append_assoc}
 use mathlib.Core.Bool.{true, false}
 use native.Mathlib.Omega.{arith}
 use lib.ListN.{length, get_or}
-use Rattle.words.specs.Event.{Event, fence, run}
+use Rattle.words.specs.declared.event.Event.{Event}
+use Rattle.words.specs.declared.event.Event.TheVariants.{Fence as fence}
+use Rattle.words.specs.Event.{run}
 use Rattle.words.specs.Blocks.{Pair, once, stored}
 use Rattle.words.specs.Cuts.{Found}
 use Rattle.words.proofs.Loss.{settled_safe}

@@ -9,7 +9,7 @@ use lib.Dec.{eqb}
 use borrow.Author.Tests.{eq-eqb, eqb-true, eqb-false}
 use Rattle.words.specs.Lists.{count_from}
 use Rattle.words.specs.Pool.{line, log_at, pairs_at}
-use Rattle.words.specs.Event.{store, flush}
+use Rattle.words.specs.declared.event.Event.TheVariants.{Store as store, Flush as flush}
 use Rattle.words.specs.Blocks.{Pair, stores, flushes, lines, stored}
 use Rattle.words.proofs.Lists.{length_from}
 use Rattle.words.proofs.Blocks.{length_stored}

@@ -6,7 +6,8 @@ use mathlib.Core.List.{List, [], ◌∷◌, ◌++◌}
 use native.Mathlib.Omega.{arith}
 use lib.ListN.{length, set, length-set}
 use lib.Seq.{get_or-set_same}
-use Rattle.words.specs.Event.{Event, at, run}
+use Rattle.words.specs.declared.event.Event.{Event}
+use Rattle.words.specs.Event.{at, run}
 use Rattle.words.specs.Blocks.{Pair, stores}
 use Rattle.words.proofs.Events.{Stores, run_off}
 use Rattle.words.proofs.Blocks.{Addressed, Off, stores_stores}

@@ -11,7 +11,8 @@ use lib.Dec.{leb}
 use borrow.Author.Tests.{le-ltb, le-leb, leb-true, ne_eqb}
 use Rattle.std.specs.Prelude.{Ok}
 use Rattle.words.specs.Pool.{used_at, log_at, nodes_at, commit_at, pairs_at, pairs_most, list_words}
-use Rattle.words.specs.Event.{fence, at, run}
+use Rattle.words.specs.declared.event.Event.TheVariants.{Fence as fence}
+use Rattle.words.specs.Event.{at, run}
 use Rattle.words.specs.Blocks.{Pair, once, stores, replay}
 use Rattle.words.specs.declared.refusal.Refusal.TheVariants.{NoPool}
 use Rattle.words.proofs.Tests.{both}

@@ -5,7 +5,8 @@ use mathlib.Core.List.{List, [], ◌∷◌, ◌++◌}
 use lib.ListN.{length, set}
 use lib.Seq.{get_or-set_same}
 use Rattle.words.specs.Pool.{log_at, nodes_at, commit_at, pairs_most}
-use Rattle.words.specs.Event.{fence, at, run}
+use Rattle.words.specs.declared.event.Event.TheVariants.{Fence as fence}
+use Rattle.words.specs.Event.{at, run}
 use Rattle.words.specs.Blocks.{Pair, stores, stored, replay}
 use Rattle.words.proofs.Events.{run_append, length_run, run_off}
 use Rattle.words.proofs.Blocks.{Addressed, Off, stores_once, run_stored, run_replay}

@@ -7,7 +7,9 @@ use mathlib.Core.Bool.{true, false}
 use native.Mathlib.Omega.{arith}
 use lib.ListN.{length, length-append}
 use Rattle.words.specs.Pool.{used_at, log_at, commit_at, pairs_at, pairs_most, nodes_at, node_at}
-use Rattle.words.specs.Event.{Event, fence, run}
+use Rattle.words.specs.declared.event.Event.{Event}
+use Rattle.words.specs.declared.event.Event.TheVariants.{Fence as fence}
+use Rattle.words.specs.Event.{run}
 use Rattle.words.specs.Blocks.{Pair, stores, stored}
 use Rattle.words.proofs.Events.{Stores, run_append, length_run}
 use Rattle.words.proofs.Blocks.{run_stored, Flushed, flushed_append, flushed_stored}

@@ -10,7 +10,9 @@ use lib.ListN.{length}
 use lib.Seq.{get_or-set_same, get_or-set_other}
 use Rattle.std.specs.Prelude.{Ok, Err}
 use Rattle.words.specs.Pool.{used_at, commit_at, pairs_at, nodes_at, pairs_most, list_words}
-use Rattle.words.specs.Event.{Event, fence, at, run, top_byte}
+use Rattle.words.specs.declared.event.Event.{Event}
+use Rattle.words.specs.declared.event.Event.TheVariants.{Fence as fence}
+use Rattle.words.specs.Event.{at, run, top_byte}
 use Rattle.words.specs.Blocks.{Pair, once, replay}
 use Rattle.words.specs.Loss.{Safe}
 use Rattle.words.specs.Cuts.{Found}

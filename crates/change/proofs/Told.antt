@@ -10,7 +10,7 @@ use borrow.Author.Tests.{eqb-true, eqb-false, not-false}
 use Rattle.std.specs.Prelude.{if◌then◌else◌, Ok}
 use Rattle.words.specs.Tests.{within}
 use Rattle.words.specs.Pool.{pairs_at, capacity_most, total_of, list_words}
-use Rattle.words.specs.Event.{Event}
+use Rattle.words.specs.declared.event.Event.{Event}
 use Rattle.words.specs.Blocks.{once}
 use Rattle.words.specs.declared.refusal.Refusal.{Refusal}
 use Rattle.words.specs.declared.refusal.Refusal.TheVariants.{ShortList, NoPool, Unfinished, Damaged, BadLog, ShortMarks}

@@ -2,7 +2,8 @@
 use Rattle.std.specs.Prelude.{ℕ, List, [], ◌∷◌, ◌++◌, not, length, ltb, if◌then◌else◌, Ok}
 use Rattle.words.specs.Tests.{within}
 use Rattle.words.specs.Pool as p
-use Rattle.words.specs.Event.{Event, fence}
+use Rattle.words.specs.declared.event.Event.{Event}
+use Rattle.words.specs.declared.event.Event.TheVariants.{Fence as fence}
 use Rattle.words.specs.Blocks.{Pair, once, stored}
 use Rattle.words.specs.declared.refusal.Refusal.TheVariants.{BadCapacity, ShortSlice}
 use Rattle.node.specs.View.{slot_at, link_at}

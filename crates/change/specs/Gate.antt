@@ -1,7 +1,7 @@
 -- What a call answers and plans, the refusals that stand before every body, and what is left in the lent list.
 use Rattle.std.specs.Prelude.{ℕ, List, [], not, length, ltb, eqb, if◌then◌else◌, Result, Ok, Err}
 use Rattle.words.specs.Pool.{list_words}
-use Rattle.words.specs.Event.{Event}
+use Rattle.words.specs.declared.event.Event.{Event}
 use Rattle.words.specs.Written.{written}
 use Rattle.words.specs.declared.refusal.Refusal.{Refusal}
 use Rattle.words.specs.declared.refusal.Refusal.TheVariants.{ShortList, NoPool, Unfinished, Damaged}

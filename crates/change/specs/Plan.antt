@@ -1,7 +1,8 @@
 -- Document 01, "Events of a split, in order": a plan, and its events (a) to (e).
 use Rattle.std.specs.Prelude.{ℕ, ◌+◌, List, [], ◌∷◌, ◌++◌, length}
 use Rattle.words.specs.Pool.{commit_at, pairs_at}
-use Rattle.words.specs.Event.{Event, fence}
+use Rattle.words.specs.declared.event.Event.{Event}
+use Rattle.words.specs.declared.event.Event.TheVariants.{Fence as fence}
 use Rattle.words.specs.Blocks.{Pair, once, stored, replay}
 
 -- what a split plans: the words of each new node from the leaf up, and the pairs of the log

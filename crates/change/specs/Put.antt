@@ -1,7 +1,8 @@
 -- Document 01, "Put, key present", "Put, leaf not full" and "Put, leaf full", with refusals 1 to 5.
 use Rattle.std.specs.Prelude.{ℕ, suc, ◌+◌, ◌-◌, List, [], ◌∷◌, ◌++◌, not, get_or, ltb, if◌then◌else◌, Ok}
 use Rattle.words.specs.Pool.{used_at, root_at, height_at, height_most}
-use Rattle.words.specs.Event.{Event, fence}
+use Rattle.words.specs.declared.event.Event.{Event}
+use Rattle.words.specs.declared.event.Event.TheVariants.{Fence as fence}
 use Rattle.words.specs.Blocks.{once, stored}
 use Rattle.words.specs.declared.refusal.Refusal.TheVariants.{Damaged, NoRoom}
 use Rattle.node.specs.Lists.{has}

@@ -2,7 +2,8 @@
 use Rattle.std.specs.Prelude.{ℕ, zero, suc, ◌+◌, ◌-◌, List, [], ◌∷◌, Bool, true, not, ◌&&◌, length, leb, ltb, eqb, if◌then◌else◌, Ok}
 use Rattle.words.specs.Tests.{within}
 use Rattle.words.specs.Pool.{used_at, log_at, nodes_at, pairs_at, pairs_most, list_words}
-use Rattle.words.specs.Event.{Event, at}
+use Rattle.words.specs.declared.event.Event.{Event}
+use Rattle.words.specs.Event.{at}
 use Rattle.words.specs.Blocks.{Pair}
 use Rattle.words.specs.declared.refusal.Refusal.TheVariants.{BadLog}
 use Rattle.tree.specs.Header.{total_in, commit_of}

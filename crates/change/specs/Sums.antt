@@ -4,7 +4,9 @@ use Rattle.std.specs.Prelude.{ℕ, ◌≡◌, ◌⊎◌, List, [], ◌∷◌, �
 use Rattle.words.specs.Pool.{total_of, commit_at, list_words}
 use Rattle.words.specs.Kinds as k
 use Rattle.words.specs.Answers.{Said}
-use Rattle.words.specs.Event.{Event, store, flush, fence, at, run}
+use Rattle.words.specs.declared.event.Event.{Event}
+use Rattle.words.specs.declared.event.Event.TheVariants.{Store as store, Flush as flush, Fence as fence}
+use Rattle.words.specs.Event.{at, run}
 use Rattle.words.specs.Loss.{Cut}
 use Rattle.node.specs.View.{Record, view, keys, slot_at, key_at}
 use Rattle.tree.specs.Header.{root_of}

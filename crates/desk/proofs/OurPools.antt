@@ -6,7 +6,7 @@ use mathlib.Core.List.{List, []}
 use native.Mathlib.Omega.{arith}
 use lib.ListN.{length}
 use Rattle.words.specs.Pool.{list_words}
-use Rattle.words.specs.Event.{Event}
+use Rattle.words.specs.declared.event.Event.{Event}
 use Rattle.words.specs.Written.{written}
 use Rattle.words.specs.Carry.{after_all, AllDone}
 use Rattle.words.specs.Cuts.{Found}

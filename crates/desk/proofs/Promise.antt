@@ -5,7 +5,8 @@ use mathlib.Core.Logic.{◌⊎◌}
 use mathlib.Core.List.{List, [], ◌∷◌}
 use lib.ListN.{length}
 use Rattle.words.specs.Pool.{list_words, events_most}
-use Rattle.words.specs.Event.{Event, run}
+use Rattle.words.specs.declared.event.Event.{Event}
+use Rattle.words.specs.Event.{run}
 use Rattle.words.specs.Written.{Lists}
 use Rattle.words.specs.Carry.{after_all, AllDone}
 use Rattle.words.specs.Loss.{Safe}

@@ -1,7 +1,8 @@
 -- Document 01, "Desks": rows of submits and turns.
 use Rattle.std.specs.Prelude.{ℕ, zero, suc, ◌+◌, List, [], ◌∷◌, eqb, if◌then◌else◌}
-use Rattle.std.proofs.Math.Option.{Option, none, some}
-use Rattle.words.specs.Event.{Event, event_at}
+use Rattle.std.specs.Prelude.{Option, Some as some, None as none}
+use Rattle.words.specs.declared.event.Event.{Event}
+use Rattle.words.specs.Event.{event_at}
 use Rattle.change.specs.declared.Request.{Request}
 use Rattle.desk.specs.declared.record.Desk.{Desk}
 use Rattle.desk.specs.declared.record.Desk.TheVariants.{Empty, Holding}

@@ -2,8 +2,6 @@
 use Rattle.std.specs.Prelude.{ℕ, Result, Ok, Err}
 use Rattle.words.specs.Refusals.{number}
 use Rattle.words.specs.declared.refusal.Refusal.{Refusal}
-use Rattle.words.specs.declared.carry.Carried.{Carried}
-use Rattle.words.specs.declared.carry.Carried.TheVariants as e
 use Rattle.change.specs.declared.Outcome.{Outcome}
 use Rattle.change.specs.declared.Outcome.TheVariants as o
 use Rattle.change.specs.declared.Answer.{Answer}
@@ -49,9 +47,9 @@ recovery_reply (Ok (r.Recovered pairs events)) = plain k.recovered events pairs
 recovery_reply (Err why) = refused why
 
 -- carrying out one event: done, with that event counted
-abbrev pub carried_reply : Carried → Reply
-carried_reply e.Done = plain k.done 1 0
-carried_reply (e.Refused why) = refused why
+abbrev pub carried_reply : Result (Unit {0}) Refusal → Reply
+carried_reply (Ok _) = plain k.done 1 0
+carried_reply (Err why) = refused why
 
 -- check: "Sound (nodes, records)", "or Fault with the first met", the node that is named
 abbrev pub verdict : Result Checked Refusal → Verdict

@@ -5,7 +5,7 @@ ghost use Rattle.exports.specs.Replies as d;
 
 use crate::reply::{Kind, Reply, Verdict};
 use change::{Answer, Checked, Outcome, Recovery};
-use words::{Carried, Refusal};
+use words::Refusal;
 
 impl From<Refusal> for Reply {
     ghost from_gives = { λ why r. r ≡ d.refused why };
@@ -60,12 +60,12 @@ impl From<Result<Recovery, Refusal>> for Reply {
     }
 }
 
-pub fn carried_reply(carried: Carried) -> Reply
+pub fn carried_reply(carried: Result<(), Refusal>) -> Reply
     ensures { result ≡ d.carried_reply carried }
 {
     match carried {
-        Carried::Done => Reply::new(Kind::DONE, 1, 0),
-        Carried::Refused(why) => Reply::from(why),
+        Ok(()) => Reply::new(Kind::DONE, 1, 0),
+        Err(why) => Reply::from(why),
     }
 }
 

@@ -1,16 +1,16 @@
 -- A node looked at is held against an upper end by its last key alone.
 use mathlib.Core.Path.{◌≡◌, ◌∙◌, sym, refl}
 use mathlib.Core.List.{List, [], ◌∷◌}
-use mathlib.Core.Bool.{Bool, true, false, ◌&&◌}
+use mathlib.Core.Bool.{Bool, true, false}
 use Prim.Native.Nat.{ℕ, zero, suc, ◌≤◌}
 use native.Mathlib.Omega.{arith}
 use borrow.Author.Tests.{le-leb, leb-true, leb-false, lt-ltb, le-ltb, ne_eqb}
 use lib.Dec.{ltb, leb}
 use lib.ListN.{length}
-use Rattle.words.proofs.Tests.{both}
+use Rattle.std.specs.Prelude.{Option, Some, None, is_some}
 use Rattle.node.specs.Lists.{last_of}
 use Rattle.node.specs.View.{Record, View, keys, good}
-use Rattle.node.specs.inner.Looked.{Looked, ends}
+use Rattle.node.specs.inner.Looked.{Looked, LookedGood, ends}
 use Rattle.node.specs.declared.cover.Look.{Look}
 
 -- an upper end that is one past a key, the top
@@ -27,26 +27,15 @@ unfolding last_of
 last_none lo [] z = refl
 last_none lo (r ∷ rs) z = absurd (omega arith)
 
-module _ {least lo key : ℕ} {u : View} {seen : Look} (l : Looked least lo key u seen) where
-  pub not_good : seen.good ≡ false → (hi : ℕ) → good least lo hi u ≡ false
-  not_good f hi = l.good_is hi ∙ rw f
+-- of a node that is good something was seen
+pub seen_good : (least lo key : ℕ) (u : View) (seen : Option Look) → Looked least lo key u seen → (hi : ℕ) → good least lo hi u ≡ true
+    → is_some seen ≡ true
+seen_good least lo key u None f hi t = sym (f hi) ∙ t
+seen_good least lo key u (Some r) l hi t = refl
 
-  pub good_ends : seen.good ≡ true → (hi : ℕ) → good least lo hi u ≡ ends hi (length u.records) seen.last
-  good_ends t hi = l.good_is hi ∙ rw t
-
-  -- a node that is good under some end was found good
-  pub seen_good : (hi : ℕ) → good least lo hi u ≡ true → seen.good ≡ true
-  seen_good hi t =
-      let e : (seen.good && ends hi (length u.records) seen.last) ≡ true = sym (l.good_is hi) ∙ t in
-      (both {a = seen.good} {b = ends hi (length u.records) seen.last} e).0
-
-  -- held against a top
-  pub kept : (top : ℕ) → lo ≤ top → good least lo (suc top) u ≡ (seen.good && leb seen.last top)
-  kept top h = go seen.good refl
-    where
-      go : (b : Bool) → seen.good ≡ b → good least lo (suc top) u ≡ (b && leb seen.last top)
-      go false e = not_good e (suc top)
-      go true e =
-          let none : length u.records ≡ 0 → seen.last ≤ top =
-          λ z. omega (arith, l.last_is e, last_none lo u.records z) in
-          good_ends e (suc top) ∙ at_top top (length u.records) seen.last none
+-- held against a top
+pub kept : {least lo key : ℕ} {u : View} {seen : Look} → LookedGood least lo key u seen → (top : ℕ) → lo ≤ top
+    → good least lo (suc top) u ≡ leb seen.last top
+kept {lo = lo} {u = u} {seen = seen} l top h =
+    let none : length u.records ≡ 0 → seen.last ≤ top = λ z. omega (arith, l.last_is, last_none lo u.records z) in
+    l.good_is (suc top) ∙ at_top top (length u.records) seen.last none

@@ -1,27 +1,17 @@
 // What a node is looked at under, and what looking at it answers.
-// The keys that a node may hold: from lo on, below hi, or without an upper end where it is open.
+// The keys that a node may hold: from lo on, below hi, or without an upper end where there is none.
 #[derive(Clone, Copy)]
 pub struct Cover {
     pub lo: u64,
-    pub hi: u64,
-    pub open: bool,
+    pub hi: Option<u64>,
 }
 
-// Whether a node is sound, its keys from a lower end on. If so, how many of them are not above a key, those before the child that covers
-// it; and the last of them, the lower end for none: it alone is to be held against an upper end.
+// Of a node that is sound, its keys from a lower end on: how many of them are not above a key, those before the child that covers it; and
+// the last of them, the lower end for none: it alone is to be held against an upper end.
 #[derive(Drop)]
 pub struct Look {
-    pub good: bool,
     pub after: u64,
     pub last: u64,
-}
-
-impl Look {
-    pub const BAD: Look = Look {
-        good: false,
-        after: 0,
-        last: 0,
-    };
 }
 
 // The rank of a key in a node, and whether it is there.

@@ -14,67 +14,52 @@ use crate::slot::{count, name};
 fn follows(j: u64, low: u64, x: u64) -> bool
     ensures { result ≡ (if eqb j 0 then leb low x else ltb low x) }
 {
-    if j == 0 {
-        return low <= x;
-    }
-    low < x
+    if j == 0 { low <= x } else { low < x }
 }
 
 // The last of j rising keys is below the cover's upper end, and so all are.
 fn ends(cover: Cover, j: u64, last: u64) -> bool
     ensures { result ≡ l.ends (end_of cover) j last }
 {
-    if j == 0 {
-        return true;
+    match cover.hi {
+        None => true,
+        Some(hi) => j == 0 || last < hi,
     }
-    if cover.open {
-        return true;
-    }
-    last < cover.hi
 }
 
-// Node k, whose slot word is w, looked at for a key. What is not good is left at the first fault. Names whose keys rise are all different.
-pub fn look(pool: &[u64], k: u64, w: u64, least: u64, from: u64, key: u64) -> Look
+// Node k, whose slot word is w, looked at for a key: nothing of one that is not good, which is left at the first fault. Names whose keys
+// rise are all different.
+pub fn look(pool: &[u64], k: u64, w: u64, least: u64, from: u64, key: u64) -> Option<Look>
     requires { Inside pool.now k × (w ≡ at pool.now (v.slot_at k)) }
     ensures { Looked least from key (v.view pool.now k) result }
 {
     let n = count(w);
     if n == 0 {
-        return Look {
-            good: least == 0,
+        return (least == 0).then_some(Look {
             after: 0,
             last: from,
-        };
+        });
     }
-    if n < least {
-        return Look::BAD;
-    }
-    if Node::ENTRIES < n {
-        return Look::BAD;
+    if n < least || Node::ENTRIES < n {
+        return None;
     }
     let mut rest = w >> 8;
     let mut last = from;
     let mut after: u64 = 0;
-    let mut j: u64 = 0;
-    while j < n {
+    for j in 0..n {
         let e = rest & 0xff;
         if Node::ENTRIES <= e {
-            return Look::BAD;
+            return None;
         }
         let x = record_key(pool, k, e);
         if !follows(j, last, x) {
-            return Look::BAD;
+            return None;
         }
         after += (x <= key) as u64;
         last = x;
-        rest = rest >> 8;
-        j += 1;
+        rest >>= 8;
     }
-    Look {
-        good: true,
-        after,
-        last,
-    }
+    Some(Look { after, last })
 }
 
 // Whether node k, whose slot word is w, is good. The key that it is looked at for plays no part.
@@ -82,11 +67,10 @@ pub fn fits(pool: &[u64], k: u64, w: u64, least: u64, cover: Cover) -> bool
     requires { Inside pool.now k × (w ≡ at pool.now (v.slot_at k)) }
     ensures { result ≡ v.good least cover.lo (end_of cover) (v.view pool.now k) }
 {
-    let seen = look(pool, k, w, least, cover.lo, 0);
-    if !seen.good {
-        return false;
+    match look(pool, k, w, least, cover.lo, 0) {
+        None => false,
+        Some(seen) => ends(cover, count(w), seen.last),
     }
-    ends(cover, count(w), seen.last)
 }
 
 // Where a key stands in sound node k, whose slot word is w and of whose keys so many are not above it: at the last of them, or after it.

@@ -25,14 +25,12 @@ pub fn marks_of(names: u64, n: u64) -> u64
 {
     let mut rest = names;
     let mut seen: u64 = 0;
-    let mut j: u64 = 0;
-    while j < n {
+    for _ in 0..n {
         let e = rest & 0xff;
         if e < 64 {
             seen = with_mark(seen, e);
         }
-        rest = rest >> 8;
-        j += 1;
+        rest >>= 8;
     }
     seen
 }

@@ -70,14 +70,12 @@ pub fn spot_of(names: u64, n: u64) -> u64
     ensures { (result ≡ s.spot (s.bytes n names)) × (result ≤ s.entries) }
 {
     let seen = marks_of(names, n);
-    let mut i: u64 = 0;
-    while i < Node::ENTRIES {
+    for i in 0..Node::ENTRIES {
         if !marked(seen, i) {
             return i;
         }
-        i += 1;
     }
-    i
+    Node::ENTRIES
 }
 
 // The lowest entry that is not named.

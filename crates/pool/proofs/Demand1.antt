@@ -3,25 +3,25 @@ use Prim.Native.Nat.{ℕ, ◌≤◌}
 use mathlib.Core.Path.{◌≡◌, refl}
 use mathlib.Core.List.{List}
 use mathlib.Core.Bool.{Bool, true, false, not}
-use mathlib.Core.Option.{Option, none, some}
 use native.Mathlib.Omega.{arith}
 use lib.ListN.{length}
 use lib.Dec.{ltb, eqb}
-use Rattle.std.specs.Prelude.{if◌then◌else◌, Err, Ok}
+use Rattle.std.specs.Prelude.{if◌then◌else◌, Option, Some, None, Result, Ok, Err}
 use Rattle.words.specs.Refusals.{number}
-use Rattle.words.specs.Event.{Event, step, event_at}
+use Rattle.words.specs.declared.event.Event.{Event}
+use Rattle.words.specs.Event.{step, event_at}
 use Rattle.words.specs.Carry.{inside, carried, after}
 use Rattle.words.specs.declared.refusal.Refusal.{Refusal}
 use Rattle.words.specs.declared.refusal.Refusal.TheVariants.{ShortList, NoPool, Unfinished, Damaged, NoRoom, BadLog}
 use Rattle.words.specs.declared.refusal.Refusal.TheVariants.{BadCapacity, ShortSlice, NoDesk, FullDesk, ShortMarks, NoEvent}
-use Rattle.words.specs.declared.carry.Carried.TheVariants as e
 use Rattle.tree.specs.Header.{form_agrees, counts_agree, commit_of, capacity_of}
 use Rattle.tree.specs.Check.{Walk, walk, marks_after}
 use Rattle.change.specs.declared.Request.TheVariants.{Put, Delete}
 use Rattle.change.specs.Check.{refuse, check_past_gate, walked}
 use Rattle.change.specs.Calls as calls
 use Rattle.change.proofs.ConditionsCalls.{format_numbers, recover_numbers, fetch_numbers, put_numbers, delete_numbers}
-use Rattle.change.proofs.ConditionsCalls.{check_numbers, carry_numbers}
+use Rattle.change.proofs.Conditions.{carry_numbers}
+use Rattle.change.proofs.ConditionsCalls.{check_numbers}
 use Rattle.change.proofs.Refused.{format_kept, recover_kept, serve_kept}
 use Rattle.pool.specs.Demand1.{Demand1}
 
@@ -56,12 +56,12 @@ marks_kept m g why =
     go false false false false w e = cc
 
 -- an event that is refused leaves the pool
-pool_kept : (m : List ℕ) (x : Option Event) (why : Refusal) → carried m x ≡ e.Refused why → after m x ≡ m
-pool_kept m none why r = refl
-pool_kept m (some x) why r = go (inside m x) r
+pool_kept : (m : List ℕ) (x : Option Event) (why : Refusal) → carried m x ≡ Err why → after m x ≡ m
+pool_kept m None why r = refl
+pool_kept m (Some x) why r = go (inside m x) r
   where
-    go : (b : Bool) → (if b then e.Done else e.Refused NoEvent) ≡ e.Refused why → (if b then step m x else m) ≡ m
-    go true r = let z : ◌≡◌ {A = ℕ} 0 1 = cc in absurd (omega arith)
+    go : (b : Bool) → ◌≡◌ {A = Result (Unit {0}) Refusal} (if b then Ok tt else Err NoEvent) (Err why) → (if b then step m x else m) ≡ m
+    go true r = cc
     go false r = refl
 
 pub demand_1 : Demand1

@@ -8,7 +8,8 @@ use lib.ListN.{length, take}
 use borrow.Author.Tests.{le-ltb}
 use Rattle.std.specs.Prelude.{Ok}
 use Rattle.words.specs.Pool as p
-use Rattle.words.specs.Event.{Event, run, top_byte}
+use Rattle.words.specs.declared.event.Event.{Event}
+use Rattle.words.specs.Event.{run, top_byte}
 use Rattle.words.specs.Written.{written}
 use Rattle.words.specs.Loss.{Cut}
 use Rattle.words.specs.Cuts.{Found}

@@ -8,7 +8,7 @@ use lib.ListN.{get_or, length}
 use borrow.Author.Tests.{ne_eqb}
 use Rattle.std.specs.Prelude.{Ok}
 use Rattle.words.specs.Pool.{line}
-use Rattle.words.specs.Event.{store, flush, fence}
+use Rattle.words.specs.declared.event.Event.TheVariants.{Store as store, Flush as flush, Fence as fence}
 use Rattle.words.specs.Blocks.{once}
 use Rattle.words.specs.Written.{Wrote}
 use Rattle.words.proofs.Written.{wrote_append}

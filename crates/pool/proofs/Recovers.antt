@@ -10,7 +10,8 @@ use borrow.Author.Tests.{le-leb, lt-leb, ltb-true, eq-eqb, ne_eqb}
 use Rattle.std.specs.Prelude.{Ok, Err}
 use Rattle.words.specs.Tests.{within}
 use Rattle.words.specs.Pool as p
-use Rattle.words.specs.Event.{Event, at}
+use Rattle.words.specs.declared.event.Event.{Event}
+use Rattle.words.specs.Event.{at}
 use Rattle.words.specs.Blocks.{Pair}
 use Rattle.words.specs.declared.refusal.Refusal.{Refusal}
 use Rattle.words.specs.declared.refusal.Refusal.TheVariants.{BadLog}

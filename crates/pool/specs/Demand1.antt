@@ -8,7 +8,6 @@ use Rattle.words.specs.Event.{event_at}
 use Rattle.words.specs.Answers.{carried_says}
 use Rattle.words.specs.Carry.{carried, after}
 use Rattle.words.specs.declared.refusal.Refusal.{Refusal}
-use Rattle.words.specs.declared.carry.Carried.TheVariants as e
 use Rattle.change.specs.declared.Request.{Request}
 use Rattle.change.specs.Answers.{outcome_says, format_says, recovery_says, check_says}
 use Rattle.change.specs.Gate.{outcome_of, events_of}
@@ -35,5 +34,5 @@ pub record Demand1 : Type 0 where
   pub serve_refused : (m l : List ℕ) (q : Request) (why : Refusal) → calls.serve_answer m l q ≡ Err why
       → (events_of (calls.serve_answer m l q) ≡ 0) × (calls.serve_list m l q ≡ l)
   pub check_refused : (m g : List ℕ) (why : Refusal) → calls.check_answer m g ≡ Err why → calls.check_marks m g ≡ g
-  pub carry_out_refused : (m l : List ℕ) (n : ℕ) (why : Refusal) → carried m (event_at l n) ≡ e.Refused why
+  pub carry_out_refused : (m l : List ℕ) (n : ℕ) (why : Refusal) → carried m (event_at l n) ≡ Err why
       → after m (event_at l n) ≡ m

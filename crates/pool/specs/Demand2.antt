@@ -2,7 +2,8 @@
 -- of a pool, l a lent list, f the map before a change and g the map after it.
 use Rattle.std.specs.Prelude.{ℕ, ◌+◌, ◌*◌, ◌≤◌, ◌<◌, ◌≡◌, ◌⊎◌, List, [], length, take, Ok, Err}
 use Rattle.words.specs.Pool.{form_at, pairs_most, capacity_most, list_words, events_most, total_of}
-use Rattle.words.specs.Event.{Event, at, run}
+use Rattle.words.specs.declared.event.Event.{Event}
+use Rattle.words.specs.Event.{at, run}
 use Rattle.words.specs.Written.{Lists}
 use Rattle.words.specs.Carry.{after_all, AllDone}
 use Rattle.words.specs.Loss.{IsStore, Some, Safe, Cut}

@@ -3,7 +3,7 @@ ghost use Rattle.std.specs.Prelude.{◌≡◌, length, Ok, Err};
 ghost use Rattle.change.specs.Gate as g;
 ghost use Rattle.pool.specs.inner.Passing.{Gated};
 
-use tree::descend::{Descent, Seat, descend};
+use tree::descend::{Seat, descend};
 use tree::header::form_agrees;
 use words::{Pool, Refusal};
 
@@ -46,8 +46,5 @@ pub fn pass_gate(pool: &[u64], key: u64) -> Result<Seat, Refusal>
     ensures { Gated pool.now key result }
 {
     pass_pool(pool)?;
-    match descend(pool, key) {
-        Descent::Fault(_) => Err(Refusal::Damaged),
-        Descent::Leaf(seat) => Ok(seat),
-    }
+    Ok(descend(pool, key)?)
 }

@@ -8,7 +8,7 @@ use lib.ListN.{length, get_or, drop, length-drop, drop_of_length-le}
 use lib.Seq.{drop-cons}
 use Rattle.words.specs.Lists.{count_from}
 use Rattle.words.specs.Pool.{line}
-use Rattle.words.specs.Event.{flush}
+use Rattle.words.specs.declared.event.Event.TheVariants.{Flush as flush}
 use Rattle.words.specs.Blocks.{stores, stored}
 use Rattle.words.specs.declared.write.EventList.{EventList}
 use Rattle.words.specs.Written.{Wrote}

@@ -8,7 +8,8 @@ use lib.ListN.{length, get_or, drop, drop_of_length-le}
 use lib.Seq.{drop-cons}
 use Rattle.words.specs.Lists.{count_from}
 use Rattle.words.specs.Pool.{line, log_at, commit_at, pairs_at}
-use Rattle.words.specs.Event.{store, flush, fence, at, top_byte}
+use Rattle.words.specs.declared.event.Event.TheVariants.{Store as store, Flush as flush, Fence as fence}
+use Rattle.words.specs.Event.{at, top_byte}
 use Rattle.words.specs.Blocks.{Pair, once, stores, flushes, stored, replay}
 use Rattle.words.specs.declared.write.EventList.{EventList}
 use Rattle.words.specs.Written.{Wrote}

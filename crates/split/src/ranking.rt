@@ -11,7 +11,6 @@ pub fn rank_of(pool: &[u64], k: u64, w: u64, key: u64) -> u64
     requires { Met pool.now k × (w ≡ at pool.now (slot_at k)) }
     ensures { result ≡ rank (view pool.now k) key }
 {
-    let seen = look(pool, k, w, 0, 0, key);
-    let at = place(pool, k, w, seen.after, key);
-    at.rank
+    let seen = look(pool, k, w, 0, 0, key).unwrap();
+    place(pool, k, w, seen.after, key).rank
 }

@@ -1,9 +1,8 @@
--- The header's tests, taken apart and put together: what passes them, that what breaks one fails, and that they look at words 0 to 7
--- and the length alone.
+-- The header's tests, taken apart and put together: what passes them, and that they look at words 0 to 7 and the length alone.
 use Prim.Native.Nat.{ℕ, ◌≤◌, ◌<◌}
-use mathlib.Core.Path.{◌≡◌, refl, sym, ◌∙◌}
+use mathlib.Core.Path.{◌≡◌, ◌∙◌}
 use mathlib.Core.List.{List}
-use mathlib.Core.Bool.{Bool, true, false, ◌&&◌}
+use mathlib.Core.Bool.{Bool, true, ◌&&◌}
 use native.Mathlib.Omega.{arith}
 use lib.ListN.{length}
 use lib.Dec.{leb, eqb}
@@ -11,7 +10,7 @@ use borrow.Author.Tests.{leb-true, eqb-true, le-leb, eq-eqb}
 use Rattle.words.specs.Tests.{within}
 use Rattle.words.specs.Pool as p
 use Rattle.words.specs.Event.{at}
-use Rattle.words.proofs.Tests.{both, within_says, within_of, differ, fails}
+use Rattle.words.proofs.Tests.{both, within_says, within_of}
 use Rattle.node.specs.View.{view}
 use Rattle.tree.specs.Header.{total_in, capacity_of, used_of, root_of, height_of, form_agrees, counts_agree}
 use Rattle.tree.specs.Kids.{root_kid}
@@ -67,17 +66,6 @@ form_back m c =
       le-leb (total_in m) (length m) c.room,
     )
 
-pub form_broken : (m : List ℕ) → ¬ Form m → form_agrees m ≡ false
-form_broken m n = fails (form_agrees m) (λ h. n (form m h))
-
--- where all else passes, the last test decides
-pub form_last : (m : List ℕ) → (total_in m ≤ length m → Form m) → leb (total_in m) (length m) ≡ form_agrees m
-form_last m rest = go (leb (total_in m) (length m)) refl
-  where
-    go : (b : Bool) → leb (total_in m) (length m) ≡ b → b ≡ form_agrees m
-    go true t = sym (form_back m (rest (leb-true (total_in m) (length m) t)))
-    go false t = sym (form_broken m (λ f. differ (sym (le-leb _ _ f.room) ∙ t)))
-
 -- used is 1..capacity, root 1..used, height 1..8
 pub record Counts (m : List ℕ) : Type 0 where
   pub used : (1 ≤ used_of m) × (used_of m ≤ capacity_of m)
@@ -105,16 +93,6 @@ counts_back m c =
       within_of 1 (root_of m) (used_of m) c.root.0 c.root.1,
       within_of 1 (height_of m) p.height_most c.height.0 c.height.1,
     )
-
-pub counts_broken : (m : List ℕ) → ¬ Counts m → counts_agree m ≡ false
-counts_broken m n = fails (counts_agree m) (λ h. n (counts m h))
-
-pub counts_last : (m : List ℕ) → (height_of m ≤ p.height_most → Counts m) → leb (height_of m) p.height_most ≡ counts_agree m
-counts_last m rest = go (leb (height_of m) p.height_most) refl
-  where
-    go : (b : Bool) → leb (height_of m) p.height_most ≡ b → b ≡ counts_agree m
-    go true t = sym (counts_back m (rest (leb-true (height_of m) p.height_most t)))
-    go false t = sym (counts_broken m (λ c. differ (sym (le-leb _ _ c.height.1) ∙ t)))
 
 -- words 0 to 4 and the length decide the form, words 4 to 7 the counts
 pub form_same : (m m' : List ℕ) → length m' ≡ length m → ((w : ℕ) → w < p.used_at → at m' w ≡ at m w)

@@ -14,7 +14,7 @@ use Rattle.node.specs.Slot.{count, names, entries}
 use Rattle.node.specs.View.{Record, view, keys, entry, slot_at, link_at, key_at, value_at}
 use Rattle.node.proofs.Every.{below_at}
 use Rattle.node.proofs.Slots.{length_names}
-use Rattle.node.specs.inner.Looked.{Inside, Looked}
+use Rattle.node.specs.inner.Looked.{Inside, LookedGood}
 use Rattle.node.specs.declared.cover.Look.{Look}
 use Rattle.node.proofs.Ranks.{upto_length}
 use Rattle.node.proofs.Views.{Good, view_length, view_names, record_at, keys_many}
@@ -128,15 +128,15 @@ good_named {m} {k} g i w = record {
   low = rw (w, ← view_names m k) g.names_low;
 }
 
-module _ (m : List ℕ) (k : ℕ) {least from key : ℕ} {seen : Look} (l : Looked least from key (view m k) seen) (t : seen.good ≡ true) where
+module _ (m : List ℕ) (k : ℕ) {least from key : ℕ} {seen : Look} (l : LookedGood least from key (view m k) seen) where
   -- before the child that covers the key there are at most the keys that the node has
   pub few_before : {w : ℕ} → w ≡ at m (slot_at k) → seen.after ≤ count w
-  few_before w = rw (w, l.after_is t, ← keys_many m k) (upto_length key (keys (view m k).records))
+  few_before w = rw (w, l.after_is, ← keys_many m k) (upto_length key (keys (view m k).records))
 
   pub picked : (lo hi : ℕ) → kid_after m (kid k lo hi) seen.after ≡ pick key (kid k lo hi) (view m k)
   picked lo hi =
       let u = view m k in
-      rw (l.after_is t) (sym (pick_is key hi (kid k lo hi) u.link lo u.records))
+      rw (l.after_is) (sym (pick_is key hi (kid k lo hi) u.link lo u.records))
 
 -- a child that is picked covers the key, if the node does
 pub pick_covers : (key l lo hi : ℕ) (rs : List Record) → lo ≤ key → key < hi

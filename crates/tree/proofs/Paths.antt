@@ -7,9 +7,10 @@ use native.Mathlib.Nat.{sub-zero, sub_self}
 use native.Mathlib.Omega.{arith}
 use lib.ListN.{length, set, take, drop, replicate, length-set}
 use lib.Seq.{drop-cons, get_or-set_same, drop-set-lt}
+use Rattle.std.specs.Prelude.{Option, is_some}
 use Rattle.words.specs.Tests.{within}
 use Rattle.node.specs.View.{View, view, keys, good, no_end}
-use Rattle.node.specs.inner.Looked.{Inside, Looked}
+use Rattle.node.specs.inner.Looked.{Inside, Looked, LookedGood}
 use Rattle.node.specs.declared.cover.Look.{Look}
 use Rattle.node.proofs.Every.{covered_more}
 use Rattle.node.proofs.Views.{Good, good_parts, parts_good}
@@ -116,16 +117,16 @@ module _ (m : List ℕ) (key : ℕ) (r : Reaches m key) where
       pub lies_inside : form_agrees m ≡ true → Inside m node
       lies_inside f = inside m f header_ok node on_way.first
 
-      module _ {seen : Look} (l : Looked 0 0 key (view m node) seen) where
-        pub found_good : seen.good ≡ true
-        found_good = seen_good l o.upto (widened good_here)
+      pub found_good : (seen : Option Look) → Looked 0 0 key (view m node) seen → is_some seen ≡ true
+      found_good seen l = seen_good 0 0 key (view m node) seen l o.upto (widened good_here)
 
+      module _ {seen : Look} (l : LookedGood 0 0 key (view m node) seen) where
         pub go_down : {k : ℕ} → ((lo hi : ℕ) → k ≡ (kid_after m (kid node lo hi) seen.after).number)
             → On k (left - 1) (set path left node)
         go_down {k} n =
             let next = above_next m left node path o.most (omega (arith, o.low, o.eight)) (omega arith) in
             let c = pick key here (view m node) in
-            let is : kid k c.from c.upto ≡ c = rw (n o.from o.upto, picked m node l found_good o.from o.upto) refl in
+            let is : kid k c.from c.upto ≡ c = rw (n o.from o.upto, picked m node l o.from o.upto) refl in
             record {
               most = omega (arith, o.most);
               low = omega (arith, o.low);

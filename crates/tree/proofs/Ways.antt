@@ -8,15 +8,16 @@ use lib.ListN.{length}
 use lib.Dec.{ltb}
 use mir.Val.{bool_byte}
 use borrow.Author.Tests.{lt-ltb, le-leb, lt-leb}
+use Rattle.std.specs.Prelude.{None}
 use Rattle.words.specs.Tests.{within}
 use Rattle.words.specs.Event.{at}
 use Rattle.words.proofs.Tests.{within_says}
 use Rattle.node.specs.View.{view, good, slot_at, no_end}
-use Rattle.node.specs.inner.Looked.{Inside, Looked, Placed}
+use Rattle.node.specs.inner.Looked.{Inside, Looked, LookedGood, Placed}
 use Rattle.node.specs.declared.cover.Look.{Look}
 use Rattle.node.specs.declared.cover.Place.{Place}
 use Rattle.node.proofs.Views.{Good, good_parts}
-use Rattle.node.proofs.Ends.{not_good, kept}
+use Rattle.node.proofs.Ends.{kept}
 use Rattle.tree.specs.Header.{used_of, root_of, capacity_of, counts_agree, form_agrees}
 use Rattle.tree.specs.Kids.{Kid, kid, pick}
 use Rattle.tree.specs.Path.{failed, leaf, parent, way, levels_above, way_to}
@@ -96,24 +97,23 @@ module _ (m : List ℕ) (key : ℕ) where
     pub bad_number : within 1 node (used_of m) ≡ false → way_to m key ≡ failed over
     bad_number t = o.rest ∙ out_of_use m key here o.up left t ∙ ap failed (sym o.nearest)
 
-    module _ (used : within 1 node (used_of m) ≡ true) {seen : Look}
-        (l : Looked (bool_byte (ltb 0 left)) from key (view m node) seen) where
+    module _ (used : within 1 node (used_of m) ≡ true) where
       fault : good (bool_byte (ltb 0 left)) from (suc top) (view m node) ≡ false → way_to m key ≡ failed node
       fault f = o.rest ∙ not_fitting m key here o.up used left f
 
-      pub bad_node : seen.good ≡ false → way_to m key ≡ failed node
-      bad_node f = fault (not_good l f (suc top))
+      pub bad_node : Looked (bool_byte (ltb 0 left)) from key (view m node) None → way_to m key ≡ failed node
+      bad_node f = fault (f (suc top))
 
       covers_some : from ≤ top
       covers_some = omega (arith, o.low, o.high)
 
-      module _ (t : seen.good ≡ true) where
+      module _ {seen : Look} (l : LookedGood (bool_byte (ltb 0 left)) from key (view m node) seen) where
         pub too_high : top < seen.last → way_to m key ≡ failed node
-        too_high h = fault (kept l top covers_some ∙ rw (t, lt-leb seen.last top h))
+        too_high h = fault (kept l top covers_some ∙ lt-leb seen.last top h)
 
         module _ (h : seen.last ≤ top) where
           fitting : good (bool_byte (ltb 0 left)) from (suc top) (view m node) ≡ true
-          fitting = kept l top covers_some ∙ rw (t, le-leb seen.last top h)
+          fitting = kept l top covers_some ∙ le-leb seen.last top h
 
           pub good_node : Good (bool_byte (ltb 0 left)) from (suc top) (view m node)
           good_node = good_parts fitting
@@ -129,14 +129,14 @@ module _ (m : List ℕ) (key : ℕ) where
           some_covered =
               let u = view m node in
               let c = pick_covers key u.link 0 (suc top) u.records (omega arith) (omega (arith, o.high)) in
-              rw (picked m node l t 0 (suc top)) (omega (arith, c.1))
+              rw (picked m node l 0 (suc top)) (omega (arith, c.1))
 
           pub go_down : (left ≡ 0 → ⊥) → {k x y : ℕ} → k ≡ (kid_after m here seen.after).number
               → x ≡ (kid_after m here seen.after).from → suc y ≡ (kid_after m here seen.after).upto
               → On m key k (left - 1) node x y
           go_down z {k = k} {x = x} {y = y} n a b =
               let u = view m node in
-              let is : pick key here u ≡ kid k x (suc y) = sym (picked m node l t from (suc top)) ∙ rw (n, a, b) refl in
+              let is : pick key here u ≡ kid k x (suc y) = sym (picked m node l from (suc top)) ∙ rw (n, a, b) refl in
               let c = rw is at (pick_covers key u.link from (suc top) u.records o.low (omega (arith, o.high))) in
               record {
                 up = node ∷ o.up;

@@ -1,6 +1,7 @@
 // The way down from the root to the leaf of a key, each node on it looked at once: all of refusal 4 but its last case.
 ghost use Rattle.std.specs.Prelude.{◌≡◌, true};
 ghost use Rattle.words.specs.Tests.{within};
+ghost use Rattle.words.specs.declared.refusal.Refusal.TheVariants.{Damaged};
 ghost use Rattle.tree.specs.Header.{form_agrees};
 ghost use Rattle.tree.specs.inner.Descended.{Descended};
 
@@ -8,7 +9,7 @@ use crate::child::{child, first_key, last_key};
 use crate::header::counts_agree;
 use node::layout::slot_word;
 use node::look::{look, place};
-use words::Pool;
+use words::{Pool, Refusal};
 
 // The leaf of a key, its slot word, the rank of the key in it, and whether the key is there.
 #[derive(Drop)]
@@ -19,33 +20,37 @@ pub struct Seat {
     pub there: bool,
 }
 
-// The node at fault, 0 for the header; or the leaf.
-#[derive(Drop)]
-pub enum Descent {
-    Fault(u64),
-    Leaf(Seat),
+// The node at fault, 0 for the header.
+#[derive(Clone, Copy)]
+pub struct Fault {
+    pub node: u64,
+}
+
+impl From<Fault> for Refusal {
+    ghost from_gives = { λ _ r. r ≡ Damaged };
+
+    fn from(_fault: Fault) -> Refusal {
+        Refusal::Damaged
+    }
 }
 
 // The root's cover has no ends: its last key is the greatest word.
-const GREATEST: u64 = 0xffff_ffff_ffff_ffff;
+const GREATEST: u64 = u64::MAX;
 
 // Whether a number is that of a node in use.
 fn in_use(used: u64, node: u64) -> bool
     ensures { result ≡ within 1 node used }
 {
-    if node == 0 {
-        return false;
-    }
-    node <= used
+    (1..=used).contains(&node)
 }
 
 // The way down to the leaf of a key. Each node covers the keys `from` to `top`, both among them, and the key is one of these.
-pub fn descend(pool: &[u64], key: u64) -> Descent
+pub fn descend(pool: &[u64], key: u64) -> Result<Seat, Fault>
     requires { form_agrees pool.now ≡ true }
     ensures { Descended pool.now key result }
 {
     if !counts_agree(pool) {
-        return Descent::Fault(0);
+        return Err(Fault { node: 0 });
     }
     let used = pool[Pool::USED_AT as usize];
     let mut node = pool[Pool::ROOT_AT as usize];
@@ -55,19 +60,18 @@ pub fn descend(pool: &[u64], key: u64) -> Descent
     let mut top = GREATEST;
     loop {
         if !in_use(used, node) {
-            return Descent::Fault(parent);
+            return Err(Fault { node: parent });
         }
         let slot = slot_word(pool, node);
-        let seen = look(pool, node, slot, (0 < left) as u64, from, key);
-        if !seen.good {
-            return Descent::Fault(node);
-        }
+        let Some(seen) = look(pool, node, slot, (0 < left) as u64, from, key) else {
+            return Err(Fault { node });
+        };
         if top < seen.last {
-            return Descent::Fault(node);
+            return Err(Fault { node });
         }
         if left == 0 {
             let at = place(pool, node, slot, seen.after, key);
-            return Descent::Leaf(Seat {
+            return Ok(Seat {
                 leaf: node,
                 slot,
                 rank: at.rank,

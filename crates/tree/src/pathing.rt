@@ -15,13 +15,11 @@ pub fn path_to(pool: &[u64], key: u64) -> [u64; 8]
 {
     let mut path = [0u64; 8];
     let mut node = pool[Pool::ROOT_AT as usize];
-    let mut left = pool[Pool::HEIGHT_AT as usize] - 1;
-    while 0 < left {
+    for left in (1..pool[Pool::HEIGHT_AT as usize]).rev() {
         path[left as usize] = node;
         let slot = slot_word(pool, node);
-        let seen = look(pool, node, slot, 0, 0, key);
+        let seen = look(pool, node, slot, 0, 0, key).unwrap();
         node = child(pool, node, slot, seen.after);
-        left -= 1;
     }
     path[0] = node;
     path

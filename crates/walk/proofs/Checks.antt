@@ -1,12 +1,13 @@
 -- The walk from the root and its end, return by return.
 use Prim.Native.Nat.{ℕ, ◌≤◌}
 use mathlib.Core.Path.{◌≡◌, refl, sym}
-use mathlib.Core.List.{List}
+use mathlib.Core.List.{List, ◌++◌}
 use mathlib.Core.Bool.{Bool, true, false, not}
 use native.Mathlib.Omega.{arith}
 use lib.Dec.{eqb}
-use lib.ListN.{length, length-append, length-replicate}
-use Rattle.std.specs.Prelude.{if◌then◌else◌}
+use lib.ListN.{length, take, drop, replicate, length-append, length-replicate}
+use lib.Seq.{length-take-le}
+use Rattle.std.specs.Prelude.{if◌then◌else◌, Ok, Err}
 use Rattle.words.specs.Pool.{words_least}
 use Rattle.words.specs.Event.{at}
 use Rattle.node.specs.View.{link_at}
@@ -19,8 +20,7 @@ use Rattle.change.specs.declared.Checked.{Checked}
 use Rattle.change.specs.declared.Checked.TheVariants as checked
 use Rattle.change.specs.Check.{walked}
 use Rattle.walk.specs.declared.walking.Seen.{Seen}
-use Rattle.walk.specs.declared.walking.Walk.{Walk}
-use Rattle.walk.specs.declared.walking.Walk.TheVariants.{Fault, Going}
+use Rattle.tree.specs.declared.descend.Fault.{Fault}
 use Rattle.walk.specs.inner.Checking.{seen_with, Ready, Walks, Passed}
 use Rattle.walk.proofs.Marks.{unmarked_most}
 
@@ -33,6 +33,11 @@ end_marks m s = go (eqb (at m (link_at s.last)) 0) (eqb s.nodes (used_of m))
     go false all = refl
     go true false = refl
     go true true = refl
+
+-- the first n marks, filled with 0, and the others
+pub cleared : (n : ℕ) (marks : List ℕ) {part : List ℕ} → n ≤ length marks → part ≡ replicate (length (take n marks)) 0
+    → part ++ drop n marks ≡ t.zeroed n marks
+cleared n marks long e = rw (e, length-take-le n marks long)
 
 abbrev none : Seen
 none = record { last = 0; nodes = 0; records = 0 }
@@ -61,13 +66,16 @@ module _ {m marks : List ℕ} (passed : Passed m marks) where
           records_in = omega arith;
         }
 
-    module _ {r : Walk} {left : List ℕ}
-        (x : Walks m (t.node_walk (levels_above m) m inner_least 0 (root_kid m) (seen_with none zeros)) r left) where
-      pub tree_stops : {j : ℕ} → r ≡ Fault j → (checked.Fault j ≡ walked (t.walk m marks)) × (left ≡ t.marks_after (t.walk m marks))
-      unfolding t.walk
-      tree_stops e = rw (← zero, ← x.walk_is, e) (refl, refl)
+    abbrev way : t.Walk
+    way = t.node_walk (levels_above m) m inner_least 0 (root_kid m) (seen_with none zeros)
 
-      pub tree_ends : {s : Seen} → r ≡ Going s → {a : Checked} → ((l : List ℕ) → a ≡ walked (t.ended m (seen_with s l)))
+    module _ {left : List ℕ} where
+      pub tree_stops : {e : Fault} → Walks m way (Err e) left
+          → (checked.Fault e.node ≡ walked (t.walk m marks)) × (left ≡ t.marks_after (t.walk m marks))
+      unfolding t.walk
+      tree_stops x = rw (← zero, ← x.walk_is) (refl, refl)
+
+      pub tree_ends : {s : Seen} → Walks m way (Ok s) left → {a : Checked} → ((l : List ℕ) → a ≡ walked (t.ended m (seen_with s l)))
           → (a ≡ walked (t.walk m marks)) × (left ≡ t.marks_after (t.walk m marks))
       unfolding t.walk
-      tree_ends {s} e f = rw (← zero, ← x.walk_is, e) (f left, sym (end_marks m (seen_with s left)))
+      tree_ends {s} x f = rw (← zero, ← x.walk_is) (f left, sym (end_marks m (seen_with s left)))

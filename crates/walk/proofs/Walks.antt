@@ -9,36 +9,36 @@ use native.Mathlib.Numerals.{sub-one}
 use borrow.Author.Tests.{not-true, not-false, eqb-true}
 use lib.Dec.{eqb, lit≤}
 use lib.ListN.{length, take, length-set}
-use Rattle.std.specs.Prelude.{if◌then◌else◌}
+use Rattle.std.specs.Prelude.{if◌then◌else◌, Result, Ok, Err}
 use Rattle.words.specs.Tests.{within}
 use Rattle.words.specs.Event.{at}
 use Rattle.words.proofs.Tests.{both, within_says}
-use Rattle.node.specs.Slot.{byte, count, names, entries}
+use Rattle.node.specs.Slot.{byte, count}
 use Rattle.node.specs.View.{View, view, slot_at, link_at}
-use Rattle.node.specs.inner.Looked.{end_of}
-use Rattle.node.proofs.Slots.{length_names}
-use Rattle.node.proofs.Views.{Good, good_parts, view_names, view_length}
+use Rattle.node.specs.inner.Looked.{Inside, end_of}
+use Rattle.node.proofs.Views.{Good, good_parts, view_length}
 use Rattle.tree.specs.Header.{capacity_of, used_of}
 use Rattle.tree.specs.Kids as k
 use Rattle.tree.specs.Check as t
 use Rattle.tree.specs.Lists.{occ}
+use Rattle.tree.specs.inner.Descended.{Named}
+use Rattle.tree.proofs.Kids.{good_named}
 use Rattle.walk.specs.declared.walking.Kid.{Kid}
 use Rattle.walk.specs.declared.walking.Seen.{Seen}
-use Rattle.walk.specs.declared.walking.Walk.{Walk}
-use Rattle.walk.specs.declared.walking.Walk.TheVariants.{Fault, Going}
-use Rattle.walk.specs.inner.Checking.{kid_of, seen_with, walk_with, leaf_walk, Marked, Leaf, Ready, Slots, ReadyAfter, Walks}
+use Rattle.tree.specs.declared.descend.Fault.{Fault}
+use Rattle.walk.specs.inner.Checking.{kid_of, seen_with, walk_with, leaf_walk, Room, Marked, Leaf, Ready, ReadyAfter, Walks}
 use Rattle.walk.proofs.Marks.{unmarked_less}
 
 -- a walk that stops
-pub stopped : {m marks : List ℕ} {w : t.Walk} {j : ℕ} → w ≡ t.fault j marks → Walks m w (Fault j) marks
+pub stopped : {m marks : List ℕ} {w : t.Walk} {j : ℕ} → w ≡ t.fault j marks → Walks m w (Err (record { node = j })) marks
 stopped e = record { walk_is = sym e; ready = rw e tt }
 
 -- a walk that goes on can do so
-pub goes_on : {m marks : List ℕ} {w : t.Walk} {r : Walk} {s : Seen} → Walks m w r marks → r ≡ Going s → Ready m (seen_with s marks)
-goes_on x e = rw (← x.walk_is, e) at x.ready
+pub goes_on : {m marks : List ℕ} {w : t.Walk} {s : Seen} → Walks m w (Ok s) marks → Ready m (seen_with s marks)
+goes_on x = rw (← x.walk_is) at x.ready
 
 -- one call's walk is another's
-pub carried : {m marks : List ℕ} {w v : t.Walk} {r : Walk} → w ≡ v → Walks m w r marks → Walks m v r marks
+pub carried : {m marks : List ℕ} {w v : t.Walk} {r : Result Seen Fault} → w ≡ v → Walks m w r marks → Walks m v r marks
 carried e x = rw (← e) x
 
 view_link : (m : List ℕ) (j : ℕ) → (view m j).link ≡ at m (link_at j)
@@ -77,14 +77,14 @@ module _ (m : List ℕ) (least parent : ℕ) (c : k.Kid) (s : t.Seen) where
 
 -- a leaf, by its two tests: what is left of the walk, and that it can go on
 leaf_cases : (good linked : Bool) (j last : ℕ) (s : Seen) (marks : List ℕ)
-    → walk_with (if not good then Fault j else if not linked then Fault last else Going s) marks
+    → walk_with (if not good then Err (record { node = j }) else if not linked then Err (record { node = last }) else Ok s) marks
     ≡ (if not good then t.fault j marks else if not linked then t.fault last marks else t.going (seen_with s marks))
 leaf_cases false linked j last s marks = refl
 leaf_cases true false j last s marks = refl
 leaf_cases true true j last s marks = refl
 
 leaf_ready : (good linked : Bool) (j last : ℕ) (m : List ℕ) (s : Seen) (marks : List ℕ) → Ready m (seen_with s marks)
-    → ReadyAfter m (walk_with (if not good then Fault j else if not linked then Fault last else Going s) marks)
+    → ReadyAfter m (walk_with (if not good then Err (record { node = j }) else if not linked then Err (record { node = last }) else Ok s) marks)
 leaf_ready false linked j last m s marks h = tt
 leaf_ready true false j last m s marks h = tt
 leaf_ready true true j last m s marks h = h
@@ -107,20 +107,20 @@ module _ {m marks marks' : List ℕ} {r : Bool} (kid : Kid) (s : Seen) (met : Ma
     pub number_in : (1 ≤ kid.number) × (kid.number ≤ used_of m)
     number_in = within_says 1 kid.number (used_of m) tests.0
 
-    -- a good node has children, from slot 0 on
-    pub slots : (least : ℕ) {w : ℕ} {b : Bool} → b ≡ k.fits least (kid_of kid) said → not b ≡ false → w ≡ at m (slot_at kid.number)
-        → Slots m kid.number w 0
-    slots least {b = b} x g e =
+    -- it lies inside the pool
+    pub lies_inside : Room m → Inside m kid.number
+    lies_inside room = record {
+      first = number_in.0;
+      most = omega (arith, number_in, room.used_in, room.capacity_in);
+      within = omega (arith, number_in, room.used_in, room.total_in);
+    }
+
+    -- and names entries if it is good
+    pub named : Room m → (least : ℕ) {w : ℕ} {b : Bool} → b ≡ k.fits least (kid_of kid) said → not b ≡ false
+        → w ≡ at m (slot_at kid.number) → Named m kid.number w
+    named room least {b = b} x g e =
         let p : Good least kid.cover.lo (end_of kid.cover) said = good_parts (sym x ∙ not-false b g) in
-        let few : length (names (at m (slot_at kid.number))) ≤ entries = rw view_names at p.most_named in
-        record {
-          first = number_in.0;
-          most = number_in.1;
-          word_is = e;
-          slot_in = omega arith;
-          count_in = rw e (omega (arith, length_names (at m (slot_at kid.number))));
-          names_low = rw (e, ← view_names m kid.number) p.names_low;
-        }
+        good_named p (lies_inside room) e
 
     module _ (ready : Ready m (seen_with s marks)) where
       one_less : occ 0 (take (capacity_of m) marks') + 1 ≡ occ 0 (take (capacity_of m) marks)
@@ -170,14 +170,14 @@ module _ {m marks marks' : List ℕ} {r : Bool} (kid : Kid) (s : Seen) (met : Ma
     abbrev walk : t.Walk
     walk = t.node_walk levels m least parent (kid_of kid) (seen_with s marks)
 
-    pub stale : not r ≡ true → Walks m walk (Fault parent) marks'
+    pub stale : not r ≡ true → Walks m walk (Err (record { node = parent })) marks'
     stale n =
         let f : r ≡ false = not-true r n in
         let same : marks' ≡ marks = rw f at met.marks_are in
         stopped (node_stale m least parent (kid_of kid) (seen_with s marks) levels (sym met.answer_is ∙ f) ∙ rw same)
 
     module _ (n : not r ≡ false) where
-      pub leaf_done : Ready m (seen_with s marks) → levels ≡ 0 → {a : Walk} → a ≡ leaf_walk m (kid_of kid) s → Walks m walk a marks'
+      pub leaf_done : Ready m (seen_with s marks) → levels ≡ 0 → {a : Result Seen Fault} → a ≡ leaf_walk m (kid_of kid) s → Walks m walk a marks'
       leaf_done ready z {a} e =
           record {
             walk_is = is;
@@ -199,12 +199,12 @@ module _ {m marks marks' : List ℕ} {r : Bool} (kid : Kid) (s : Seen) (met : Ma
               ∙ node_leaf m least parent (kid_of kid) (seen_with s marks) (fresh n) levels z)
 
       module _ (z : levels ≡ 0 → ⊥) {b : Bool} (x : b ≡ k.fits least (kid_of kid) said) where
-        pub bad : not b ≡ true → Walks m walk (Fault kid.number) marks'
+        pub bad : not b ≡ true → Walks m walk (Err (record { node = kid.number })) marks'
         bad g =
             let f = sym x ∙ not-true b g in
             stopped (node_bad m least parent (kid_of kid) (seen_with s marks) (fresh n) levels z f ∙ rw (marked n))
 
-        pub down : not b ≡ false → {link : ℕ} → link ≡ at m (link_at kid.number) → {a : Walk} {marks'' : List ℕ}
+        pub down : not b ≡ false → {link : ℕ} → link ≡ at m (link_at kid.number) → {a : Result Seen Fault} {marks'' : List ℕ}
             → Walks m (t.each_child (t.node_walk (levels - 1) m k.below_root_least kid.number)
             (k.kids_from link kid.cover.lo (end_of kid.cover) said.records)
             (seen_with (record { last = s.last; nodes = s.nodes + 1; records = s.records }) marks')) a marks'' → Walks m walk a marks''

@@ -7,7 +7,8 @@ use lib.ListN.{length, get_or-eq_default}
 use lib.Seq.{ext_get_or}
 use native.Mathlib.Decide.{ℕ_discrete, dec_lt}
 use native.Mathlib.Omega.{arith}
-use Rattle.words.specs.Event.{Event, at, run}
+use Rattle.words.specs.declared.event.Event.{Event}
+use Rattle.words.specs.Event.{at, run}
 use Rattle.words.proofs.Events.{Stores, length_run, run_off, run_agree}
 
 -- one length, and the same value in each word of P

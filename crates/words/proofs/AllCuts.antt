@@ -13,7 +13,8 @@ use lib.Dec.{T}
 use lib.Ieee.Bits.{is_true}
 use native.Mathlib.Nat.{zero-add, add-zero, suc_inj}
 use native.Mathlib.Omega.{arith}
-use Rattle.words.specs.Event.{Event, at}
+use Rattle.words.specs.declared.event.Event.{Event}
+use Rattle.words.specs.Event.{at}
 use Rattle.words.specs.Loss.{Cut}
 use Rattle.words.proofs.Tests.{both_hold}
 use Rattle.words.proofs.Values.{values, values_exact}

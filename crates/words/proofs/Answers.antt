@@ -4,12 +4,10 @@ use mathlib.Core.Path.{◌≡◌, refl, sym, ◌∙◌, ap}
 use mathlib.Core.List.{[], ◌∷◌}
 use lib.ListN.{get_or}
 use lib.Dec.{eqb}
-use Rattle.std.specs.Prelude.{if◌then◌else◌}
+use Rattle.std.specs.Prelude.{if◌then◌else◌, Result, Ok, Err}
 use Rattle.words.specs.declared.refusal.Refusal.{Refusal}
 use Rattle.words.specs.declared.refusal.Refusal.TheVariants.{ShortList, NoPool, Unfinished, Damaged, NoRoom, BadLog}
 use Rattle.words.specs.declared.refusal.Refusal.TheVariants.{BadCapacity, ShortSlice, NoDesk, FullDesk, ShortMarks, NoEvent}
-use Rattle.words.specs.declared.carry.Carried.{Carried}
-use Rattle.words.specs.declared.carry.Carried.TheVariants.{Done, Refused}
 use Rattle.words.specs.Refusals.{number}
 use Rattle.words.specs.Kinds as k
 use Rattle.words.specs.Answers.{Said, carried_says}
@@ -51,13 +49,13 @@ refusal_back FullDesk = refl
 refusal_back ShortMarks = refl
 refusal_back NoEvent = refl
 
-carried_of : Said → Carried
-carried_of s = if eqb s.0 k.done then Done else Refused (refusal_of s.1)
+carried_of : Said → Result (Unit {0}) Refusal
+carried_of s = if eqb s.0 k.done then Ok tt else Err (refusal_of s.1)
 
-carried_back : (r : Carried) → carried_of (carried_says r) ≡ r
+carried_back : (r : Result (Unit {0}) Refusal) → carried_of (carried_says r) ≡ r
 unfolding carried_of
-carried_back Done = refl
-carried_back (Refused why) = ap Refused (refusal_back why)
+carried_back (Ok _) = refl
+carried_back (Err why) = ap Err (refusal_back why)
 
-pub carried_told : (r s : Carried) → carried_says r ≡ carried_says s → r ≡ s
+pub carried_told : (r s : Result (Unit {0}) Refusal) → carried_says r ≡ carried_says s → r ≡ s
 carried_told = told carried_says carried_of carried_back

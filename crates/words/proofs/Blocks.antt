@@ -8,7 +8,9 @@ use lib.ListN.{length, length-append}
 use native.Mathlib.Omega.{arith}
 use Rattle.words.specs.Pool.{line}
 use Rattle.std.specs.Prelude.{if◌then◌else◌}
-use Rattle.words.specs.Event.{Event, store, flush, fence, run}
+use Rattle.words.specs.declared.event.Event.{Event}
+use Rattle.words.specs.declared.event.Event.TheVariants.{Store as store, Flush as flush, Fence as fence}
+use Rattle.words.specs.Event.{run}
 use Rattle.words.specs.Blocks.{Pair, once, stores, flushes, lines, stored, replay}
 use Rattle.words.specs.Loss.{IsFlush, IsFence, Some, Kept}
 use Rattle.words.proofs.Tests.{Tells, is, isnt, tells_equal}

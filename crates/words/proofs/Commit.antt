@@ -6,7 +6,9 @@ use mathlib.Core.List.{List, [], ◌∷◌, ◌++◌}
 use lib.ListN.{length, take}
 use lib.Seq.{get_or-set_same, take_all, take-nil, take-append-le, take-append-add}
 use native.Mathlib.Omega.{arith}
-use Rattle.words.specs.Event.{Event, fence, at, run}
+use Rattle.words.specs.declared.event.Event.{Event}
+use Rattle.words.specs.declared.event.Event.TheVariants.{Fence as fence}
+use Rattle.words.specs.Event.{at, run}
 use Rattle.words.specs.Blocks.{once}
 use Rattle.words.specs.Loss.{IsStore, IsFence, Some, Safe, Cut}
 use Rattle.words.specs.Cuts.{Found, first}

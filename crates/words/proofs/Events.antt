@@ -6,7 +6,9 @@ use mathlib.Core.List.{List, [], ◌∷◌, ◌++◌}
 use lib.ListN.{length, set, take, drop, length-set, take-append-drop}
 use lib.Seq.{get_or-set_same, get_or-set_other}
 use native.Mathlib.Decide.{ℕ_discrete}
-use Rattle.words.specs.Event.{Event, store, flush, fence, at, step, run}
+use Rattle.words.specs.declared.event.Event.{Event}
+use Rattle.words.specs.declared.event.Event.TheVariants.{Store as store, Flush as flush, Fence as fence}
+use Rattle.words.specs.Event.{at, step, run}
 use Rattle.words.specs.Loss.{IsStore, Some}
 
 -- the event stores to word w

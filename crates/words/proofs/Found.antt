@@ -4,7 +4,7 @@ use mathlib.Core.Path.{◌≡◌}
 use mathlib.Core.List.{List, []}
 use lib.ListN.{take}
 use lib.Seq.{take-nil}
-use Rattle.words.specs.Event.{Event}
+use Rattle.words.specs.declared.event.Event.{Event}
 use Rattle.words.specs.Loss.{Cut}
 use Rattle.words.specs.Cuts.{Found, first, again}
 use Rattle.words.proofs.Loss.{cut_settled}

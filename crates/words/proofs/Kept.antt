@@ -5,7 +5,8 @@ use mathlib.Core.Logic.{◌⊎◌, inl, inr, ⊎_elim}
 use mathlib.Core.Bool.{Bool, true, false, ◌&&◌}
 use mathlib.Core.List.{List, [], ◌∷◌, ◌++◌}
 use lib.Dec.{eqb}
-use Rattle.words.specs.Event.{Event, store, flush, fence}
+use Rattle.words.specs.declared.event.Event.{Event}
+use Rattle.words.specs.declared.event.Event.TheVariants.{Store as store, Flush as flush, Fence as fence}
 use Rattle.words.specs.Loss.{IsFlush, IsFence, Some, Kept}
 use Rattle.words.proofs.Tests.{Tells, is, isnt, tells_equal, tells_and, tells_right}
 use Rattle.words.proofs.Events.{some_left}

@@ -4,25 +4,23 @@ use mathlib.Core.Path.{◌≡◌, refl, sym, ◌∙◌, ap, subst}
 use mathlib.Core.Bool.{true}
 use mathlib.Core.Logic.{◌⊎◌, inl, inr}
 use mathlib.Core.List.{List, [], ◌∷◌}
-use mathlib.Core.Option.{Option, none, some}
+use Rattle.std.specs.Prelude.{Option, Some as some, None as none}
 use native.Mathlib.Omega.{arith}
-use lib.Bits.{bit_and, and_mask}
 use lib.ListN.{length, length-set, set}
 use lib.Seq.{get_or-set_same, get_or-set_other}
 use borrow.Author.Tests.{le-leb, lt-leb}
-use Rattle.words.specs.Event.{Event, store, flush, fence, number_of, first_word, second_word, top_byte}
+use Rattle.std.specs.Prelude.{Ok}
+use Rattle.words.specs.declared.event.Event.{Event}
+use Rattle.words.specs.declared.event.Event.TheVariants.{Store as store, Flush as flush, Fence as fence}
+use Rattle.words.specs.Event.{number_of, first_word, second_word, top_byte}
 use Rattle.words.specs.Event.{at, event_of, event_at, step, run}
 use Rattle.words.specs.Written.{written_one, written, Lists}
 use Rattle.words.specs.Carry.{inside, carried, after, after_all, AllDone}
-use Rattle.words.specs.declared.carry.Carried.TheVariants.{Done}
 use Rattle.words.proofs.Joined.{joined_high, joined_low}
 use Rattle.words.proofs.Written.{length_written}
 use Rattle.words.proofs.Events.{length_step}
 
 -- "no such event in the list"
-pub event_zero : (l : List ℕ) (n : ℕ) → n ≡ 0 → event_at l n ≡ none
-event_zero l n e = rw e
-
 pub event_past : (l : List ℕ) (n : ℕ) → length l / 2 < n → event_at l n ≡ none
 event_past l n past = let low : 1 ≤ n = omega arith in rw (le-leb _ _ low, lt-leb _ _ past)
 
@@ -34,13 +32,6 @@ event_there l n there =
     let i : 2 * suc n - 2 ≡ n * 2 = omega arith in
     let j : 2 * suc n - 1 ≡ n * 2 + 1 = omega arith in
     rw (le-leb _ _ low, le-leb _ _ there, i, j)
-
--- the same, as the code reads it
-pub event_read : (l : List ℕ) (n : ℕ) → 1 ≤ n → n ≤ length l / 2
-    → event_at l n ≡ event_of (at l ((n - 1) * 2) / top_byte) (bit_and (at l ((n - 1) * 2)) (top_byte - 1)) (at l ((n - 1) * 2 + 1))
-event_read l n low high =
-    let i : suc (n - 1) ≡ n = omega arith in
-    ap (event_at l) (sym i) ∙ event_there l (n - 1) (omega arith) ∙ rw (and_mask (at l ((n - 1) * 2)) 56)
 
 -- every number of the events fits below its kind
 abbrev pub Numbered : List Event → Type 0
@@ -113,7 +104,7 @@ inside_keeps : (m n : List ℕ) (es : List Event) → length n ≡ length m → 
 inside_keeps m n [] same h = tt
 inside_keeps m n (e ∷ es) same h = (sym (inside_step m n e same) ∙ h.0, inside_keeps m n es same h.1)
 
-done_one : (m : List ℕ) (e : Event) (o : Option Event) → o ≡ some e → inside m e ≡ true → (after m o ≡ step m e) × (carried m o ≡ Done)
+done_one : (m : List ℕ) (e : Event) (o : Option Event) → o ≡ some e → inside m e ≡ true → (after m o ≡ step m e) × (carried m o ≡ Ok tt)
 done_one m e o is h = rw (is, h) (refl, refl)
 
 -- past the list's end there is no event: however many are carried out from there, the pool is as it was

@@ -6,7 +6,9 @@ use mathlib.Core.Logic.{◌⊎◌, inl, inr, ⊎_elim}
 use mathlib.Core.List.{List, [], ◌∷◌, ◌++◌, append_assoc}
 use lib.ListN.{length, take}
 use lib.Seq.{take_all}
-use Rattle.words.specs.Event.{Event, fence, run}
+use Rattle.words.specs.declared.event.Event.{Event}
+use Rattle.words.specs.declared.event.Event.TheVariants.{Fence as fence}
+use Rattle.words.specs.Event.{run}
 use Rattle.words.specs.Blocks.{Pair, once, replay}
 use Rattle.words.specs.Loss.{Safe, Cut}
 use Rattle.words.specs.Cuts.{Found}

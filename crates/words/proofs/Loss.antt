@@ -9,7 +9,8 @@ use lib.Seq.{take-append-le, take-append-add}
 use native.Mathlib.Decide.{dec_le}
 use native.Mathlib.Omega.{arith}
 use Rattle.words.specs.Pool.{line}
-use Rattle.words.specs.Event.{Event, at, step, run}
+use Rattle.words.specs.declared.event.Event.{Event}
+use Rattle.words.specs.Event.{at, step, run}
 use Rattle.words.specs.Loss.{IsStore, IsFence, Some, Kept, MayHold, Safe, Cut}
 use Rattle.words.proofs.Events.{To, Stores, some_append, some_left, some_right, some_take}
 use Rattle.words.proofs.Events.{stores_of, length_run, run_off, run_from}

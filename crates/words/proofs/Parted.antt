@@ -5,7 +5,9 @@ use mathlib.Core.Logic.{◌⊎◌, inl, inr, ◌↔◌}
 use mathlib.Core.List.{List, [], ◌∷◌, ◌++◌, head-eq_of_cons-eq, tail-eq_of_cons-eq, cons≢nil, append_assoc}
 use lib.ListN.{length}
 use Rattle.words.specs.Pool.{line}
-use Rattle.words.specs.Event.{Event, store, flush, fence, at, step, run}
+use Rattle.words.specs.declared.event.Event.{Event}
+use Rattle.words.specs.declared.event.Event.TheVariants.{Store as store, Flush as flush, Fence as fence}
+use Rattle.words.specs.Event.{at, step, run}
 use Rattle.words.specs.Loss.{IsStore, IsFlush, IsFence, Some, Kept, Parted, MayHold, Cut}
 use Rattle.words.proofs.Events.{run_append, length_run, run_from}
 use Rattle.words.proofs.Kept.{kept_right, kept_dec}

@@ -7,16 +7,18 @@ use mathlib.Core.List.{List, [], ◌∷◌, map}
 use native.Mathlib.Omega.{arith}
 use lib.ListN.{replicate, set}
 use lib.Seq.{get_or-set_same, get_or-set_other}
+use Rattle.std.specs.Prelude.{Result, Ok, Err}
 use Rattle.words.specs.Lists.{count_from}
 use Rattle.words.specs.Pool.{pairs_at, pairs_most, nodes_at}
-use Rattle.words.specs.Event.{Event, store, flush, at, first_word, second_word, event_at}
+use Rattle.words.specs.declared.event.Event.{Event}
+use Rattle.words.specs.declared.event.Event.TheVariants.{Store as store, Flush as flush}
+use Rattle.words.specs.Event.{at, first_word, second_word, event_at}
 use Rattle.words.specs.Written.{written, Wrote}
 use Rattle.words.specs.declared.write.EventList.{EventList}
 use Rattle.words.specs.Refusals.{number}
+use Rattle.words.specs.declared.refusal.Refusal.{Refusal}
 use Rattle.words.specs.declared.refusal.Refusal.TheVariants.{ShortList, NoPool, Unfinished, Damaged, NoRoom, BadLog}
 use Rattle.words.specs.declared.refusal.Refusal.TheVariants.{BadCapacity, ShortSlice, NoDesk, FullDesk, ShortMarks, NoEvent}
-use Rattle.words.specs.declared.carry.Carried.{Carried}
-use Rattle.words.specs.declared.carry.Carried.TheVariants.{Done, Refused}
 use Rattle.words.specs.Kinds as k
 use Rattle.words.specs.Answers.{Said, refused, carried_says}
 use Rattle.words.specs.Carry.{carried, after, CarryPromise, after_all, CarryAllPromise}
@@ -26,15 +28,15 @@ abbrev one : Event → List ℕ
 one e = first_word e ∷ second_word e ∷ []
 
 -- a flush is tested by another word than its line's first: of nine words, line 1 begins at the last
-pub flush_word : ¬ CarryPromise (replicate 9 0) (one (flush 1)) 1 (Refused NoEvent) (replicate 9 0)
+pub flush_word : ¬ CarryPromise (replicate 9 0) (one (flush 1)) 1 (Err NoEvent) (replicate 9 0)
 flush_word p = let h : k.refused ≡ k.done = ap (λ (s : Said). s.0) p.0 in omega arith
 
 -- the kind is taken by a wrong shift, so that a store is taken for a flush and leaves the pool as it was
-pub kind_shift : ¬ CarryPromise (0 ∷ []) (one (store 0 5)) 1 Done (0 ∷ [])
+pub kind_shift : ¬ CarryPromise (0 ∷ []) (one (store 0 5)) 1 (Ok tt) (0 ∷ [])
 kind_shift p = let h : at (0 ∷ []) 0 ≡ 5 = ap (λ (m : List ℕ). at m 0) p.1 in omega arith
 
 -- the event's first word is stored in place of the value
-pub value_word : ¬ CarryPromise (0 ∷ []) (one (store 0 5)) 1 Done (first_word (store 0 5) ∷ [])
+pub value_word : ¬ CarryPromise (0 ∷ []) (one (store 0 5)) 1 (Ok tt) (first_word (store 0 5) ∷ [])
 value_word p = let h : first_word (store 0 5) ≡ 5 = ap (λ (m : List ℕ). at m 0) p.1 in omega arith
 
 -- the first event is left out
@@ -70,19 +72,19 @@ pub numbers :
 numbers = refl
 
 -- a promise of the answer's case alone: where there is no such event, a refusal of any number keeps it
-abbrev CaseAlone : List ℕ → List ℕ → ℕ → Carried → List ℕ → Type 0
+abbrev CaseAlone : List ℕ → List ℕ → ℕ → Result (Unit {0}) Refusal → List ℕ → Type 0
 CaseAlone m l n r m' = ((carried_says r).0 ≡ (carried_says (carried m (event_at l n))).0) × (m' ≡ after m (event_at l n))
 
 pub case_alone :
-    CaseAlone [] [] 1 (Refused NoEvent) [] × CaseAlone [] [] 1 (Refused NoRoom) [] × (Refused NoEvent ≢ Refused NoRoom)
-case_alone =
-    ((refl, refl), (refl, refl), λ e. let h : number NoEvent ≡ number NoRoom = ap (λ (r : Carried). (carried_says r).1) e in omega arith)
+    CaseAlone [] [] 1 (Err NoEvent) [] × CaseAlone [] [] 1 (Err NoRoom) []
+    × (◌≢◌ {A = Result (Unit {0}) Refusal} (Err NoEvent) (Err NoRoom))
+case_alone = ((refl, refl), (refl, refl), λ e. cc)
 
--- answers of which Done and refusal 12 say the same
-abbrev confused : Carried → Said
-confused Done = refused NoEvent
-confused (Refused why) = refused why
+-- answers of which done and refusal 12 say the same
+abbrev confused : Result (Unit {0}) Refusal → Said
+confused (Ok _) = refused NoEvent
+confused (Err why) = refused why
 
-pub answers_confused : ¬ ((r s : Carried) → confused r ≡ confused s → r ≡ s)
+pub answers_confused : ¬ ((r s : Result (Unit {0}) Refusal) → confused r ≡ confused s → r ≡ s)
 answers_confused f =
-    let h : k.done ≡ k.refused = ap (λ (r : Carried). (carried_says r).0) (f Done (Refused NoEvent) refl) in omega arith
+    let e : ◌≡◌ {A = Result (Unit {0}) Refusal} (Ok tt) (Err NoEvent) = f (Ok tt) (Err NoEvent) refl in cc

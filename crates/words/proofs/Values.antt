@@ -14,7 +14,9 @@ use lib.Seq.{get_or-set_same, get_or-set_other}
 use lib.Dec.{eqb}
 use Rattle.std.specs.Prelude.{if◌then◌else◌}
 use Rattle.words.specs.Pool.{line}
-use Rattle.words.specs.Event.{Event, store, flush, fence, at, step}
+use Rattle.words.specs.declared.event.Event.{Event}
+use Rattle.words.specs.declared.event.Event.TheVariants.{Store as store, Flush as flush, Fence as fence}
+use Rattle.words.specs.Event.{at, step}
 use Rattle.words.specs.Loss.{IsStore, Some, Kept, MayHold}
 use Rattle.words.proofs.Tests.{Tells, is, isnt, tells_equal}
 use Rattle.words.proofs.Events.{length_step}

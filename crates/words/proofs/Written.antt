@@ -6,7 +6,7 @@ use native.Mathlib.Nat.{add-zero}
 use native.Mathlib.Omega.{arith}
 use lib.ListN.{length, length-append, length-set}
 use Rattle.words.specs.declared.write.EventList.{EventList}
-use Rattle.words.specs.Event.{Event}
+use Rattle.words.specs.declared.event.Event.{Event}
 use Rattle.words.specs.Written.{written_one, written, Wrote}
 
 pub written_append : (es fs : List Event) (n : ℕ) (l : List ℕ) → written (es ++ fs) n l ≡ written fs (n + length es) (written es n l)

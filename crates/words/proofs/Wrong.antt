@@ -8,7 +8,9 @@ use lib.Seq.{get_or-set_same, get_or-set_other, take-append-add}
 use native.Mathlib.Decide.{ℕ_discrete}
 use native.Mathlib.Omega.{arith}
 use Rattle.words.specs.Pool.{line}
-use Rattle.words.specs.Event.{Event, store, flush, at, run}
+use Rattle.words.specs.declared.event.Event.{Event}
+use Rattle.words.specs.declared.event.Event.TheVariants.{Store as store, Flush as flush}
+use Rattle.words.specs.Event.{at, run}
 use Rattle.words.specs.Blocks.{Pair, once, stores, flushes, lines, stored}
 use Rattle.words.specs.Loss.{IsStore, IsFence, Some, Parted, Cut}
 use Rattle.words.proofs.Events.{To, Stores, some_append, some_right, run_append, length_run, run_off}

@@ -1,9 +1,7 @@
 -- Document 01: "Where an answer is an enum, a definition gives this paper's number and values for each of its cases, and the promises use
 -- that definition." This is the form of them all, and the answer of carrying out one event.
-use Rattle.std.specs.Prelude.{ℕ, List, []}
+use Rattle.std.specs.Prelude.{ℕ, List, [], Result, Ok, Err}
 use Rattle.words.specs.declared.refusal.Refusal.{Refusal}
-use Rattle.words.specs.declared.carry.Carried.{Carried}
-use Rattle.words.specs.declared.carry.Carried.TheVariants.{Done, Refused}
 use Rattle.words.specs.Refusals.{number}
 use Rattle.words.specs.Kinds as k
 
@@ -15,6 +13,6 @@ Said = ℕ × ℕ × List ℕ
 abbrev pub refused : Refusal → Said
 refused why = (k.refused, number why, [])
 
-abbrev pub carried_says : Carried → Said
-carried_says Done = (k.done, 0, [])
-carried_says (Refused why) = refused why
+abbrev pub carried_says : Result (Unit {0}) Refusal → Said
+carried_says (Ok _) = (k.done, 0, [])
+carried_says (Err why) = refused why

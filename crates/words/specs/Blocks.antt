@@ -1,7 +1,8 @@
 -- The runs of events that the steps of every change are made of.
 use Rattle.std.specs.Prelude.{ℕ, List, [], ◌∷◌, ◌++◌, eqb, if◌then◌else◌}
 use Rattle.words.specs.Pool.{line}
-use Rattle.words.specs.Event.{Event, store, flush, fence}
+use Rattle.words.specs.declared.event.Event.{Event}
+use Rattle.words.specs.declared.event.Event.TheVariants.{Store as store, Flush as flush, Fence as fence}
 
 -- a word address and a value
 abbrev pub Pair : Type 0

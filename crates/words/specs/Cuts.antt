@@ -1,7 +1,7 @@
 -- A change cut short, and its recovery cut again any number of times. Each memory found is a start of its own, with one value a word:
 -- "Memory found after a cut is all safe."
 use Rattle.std.specs.Prelude.{ℕ, List, take}
-use Rattle.words.specs.Event.{Event}
+use Rattle.words.specs.declared.event.Event.{Event}
 use Rattle.words.specs.Loss.{Cut}
 
 -- m' may be found when the power goes after n of the events es, or again and again after any number of events of the recovery of

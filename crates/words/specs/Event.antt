@@ -1,13 +1,10 @@
 -- Document 01, "Events and the rule of loss": an event, its two words in the list, and what carrying it out does.
 use Rattle.std.specs.Prelude.{ℕ, ◌+◌, ◌-◌, ◌*◌, ◌/◌, ◌%◌, ◌^◌, List, [], ◌∷◌, length, get_or, set, eqb, if◌then◌else◌}
-use Rattle.std.proofs.Math.Option.{Option, none, some}
+use Rattle.std.specs.Prelude.{Option, Some as some, None as none}
 use Rattle.words.specs.Tests.{within}
-
--- a store of a value to a word, a flush of a line, a fence
-pub data Event : Type 0 where
-  store : ℕ → ℕ → Event
-  flush : ℕ → Event
-  fence : Event
+-- a store of a value to a word, a flush of a line, a fence: the type of the code
+use Rattle.words.specs.declared.event.Event.{Event}
+use Rattle.words.specs.declared.event.Event.TheVariants.{Store as store, Flush as flush, Fence as fence}
 
 -- word w of a memory, or of a list
 abbrev pub at : List ℕ → ℕ → ℕ

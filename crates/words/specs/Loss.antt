@@ -1,7 +1,9 @@
 -- Document 01, "Events and the rule of loss": what each word may hold after a cut.
 use Rattle.std.specs.Prelude.{ℕ, ◌<◌, ◌≡◌, ◌⊎◌, List, [], ◌∷◌, ◌++◌, length}
 use Rattle.words.specs.Pool.{line}
-use Rattle.words.specs.Event.{Event, store, flush, fence, at, run}
+use Rattle.words.specs.declared.event.Event.{Event}
+use Rattle.words.specs.declared.event.Event.TheVariants.{Store as store, Flush as flush, Fence as fence}
+use Rattle.words.specs.Event.{at, run}
 
 -- the event stores v to word w
 abbrev pub IsStore : ℕ → ℕ → Event → Type 0

@@ -1,8 +1,9 @@
 -- Document 01: "Planning writes only the list, and of it only its events' words."
 use Rattle.std.specs.Prelude.{ℕ, suc, ◌+◌, ◌*◌, ◌≡◌, List, [], ◌∷◌, length, set}
-use Rattle.std.proofs.Math.Option.{some}
 use Rattle.words.specs.declared.write.EventList.{EventList}
-use Rattle.words.specs.Event.{Event, first_word, second_word, event_at}
+use Rattle.std.specs.Prelude.{Some as some}
+use Rattle.words.specs.declared.event.Event.{Event}
+use Rattle.words.specs.Event.{first_word, second_word, event_at}
 
 -- the two words of an event that comes after n others, over those of the list
 abbrev pub written_one : Event → ℕ → List ℕ → List ℕ

@@ -1,60 +1,23 @@
 // Carrying out one event of a list, and all of them.
-ghost use Rattle.std.specs.Prelude.{◌≡◌, ◌/◌, min, length};
 ghost use Rattle.words.specs.Carry.{CarryPromise, CarryAllPromise};
 
-use crate::kind::{FENCE, FLUSH, STORE};
+use crate::event::{Event, event_at};
 use crate::limits::Pool;
 use crate::refusal::Refusal;
 
-#[derive(Drop)]
-pub enum Carried {
-    Done,
-    Refused(Refusal),
-}
-
 // Carries out event n of the list, counted from 1, on the pool.
-pub fn carry_out(pool: &mut [u64], list: &[u64], n: u64) -> Carried
+pub fn carry_out(pool: &mut [u64], list: &[u64], n: u64) -> Result<(), Refusal>
     ensures { CarryPromise pool.old list.now n result pool.new }
 {
-    if n == 0 {
-        return Carried::Refused(Refusal::NoEvent);
-    }
-    if ((list.len() / 2) as u64) < n {
-        return Carried::Refused(Refusal::NoEvent);
-    }
-    let at = (n as usize - 1) * 2;
-    let first = list[at];
-    let value = list[at + 1];
-    let kind = first >> 56;
-    let number = first & 0x00ff_ffff_ffff_ffff;
-    match kind {
-        STORE => {
-            if number < (pool.len() as u64) {
-                pool[number as usize] = value;
-                return Carried::Done;
-            }
-            Carried::Refused(Refusal::NoEvent)
+    match event_at(list, n) {
+        Some(Event::Store(word, value)) if word < (pool.len() as u64) => {
+            pool[word as usize] = value;
+            Ok(())
         }
-        FLUSH => {
-            if number * Pool::LINE_WORDS < (pool.len() as u64) {
-                return Carried::Done;
-            }
-            Carried::Refused(Refusal::NoEvent)
-        }
-        FENCE => Carried::Done,
-        _ => Carried::Refused(Refusal::NoEvent),
+        Some(Event::Flush(line)) if line * Pool::LINE_WORDS < (pool.len() as u64) => Ok(()),
+        Some(Event::Fence) => Ok(()),
+        _ => Err(Refusal::NoEvent),
     }
-}
-
-// So many events, or all that the list has if these are fewer.
-fn most_of(list: &[u64], events: u64) -> u64
-    ensures { result ≡ min events (length list.now / 2) }
-{
-    let held = (list.len() / 2) as u64;
-    if held < events {
-        return held;
-    }
-    events
 }
 
 // All events of the list up to a number, one after the other. Past the list's end there are none, so it stops there.
@@ -65,10 +28,7 @@ pub fn carry_all(pool: &mut [u64], list: &[u64], events: u64)
     if events == 0 {
         return;
     }
-    let most = most_of(list, events);
-    let mut n = 0;
-    while n < most {
-        n += 1;
-        carry_out(pool, list, n);
+    for n in 1..=events.min((list.len() / 2) as u64) {
+        let _ = carry_out(pool, list, n);
     }
 }

@@ -2,12 +2,12 @@
 #![tactic(auto)]
 
 mod carry;
-mod kind;
-pub mod limits;
-pub mod refusal;
+mod event;
+mod limits;
+mod refusal;
 mod write;
 
-pub use carry::{Carried, carry_all, carry_out};
+pub use carry::{carry_all, carry_out};
 pub use limits::Pool;
 pub use refusal::Refusal;
 pub use write::EventList;

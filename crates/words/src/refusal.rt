@@ -1,52 +1,39 @@
-// Document 01's refusals, in the order of their numbers.
+// Document 01's refusals, each with its number.
 ghost use Rattle.std.specs.Prelude.{◌≡◌};
 ghost use Rattle.words.specs.Refusals.{number};
 
-#[derive(Clone, Copy)]
+#[derive(Clone, Copy, PartialEq, Eq)]
 pub enum Refusal {
     // Event list under 372 words.
-    ShortList,
+    ShortList = 1,
     // No pool: the slice, its header or its total is wrong.
-    NoPool,
+    NoPool = 2,
     // Commit word not 0: a change is unfinished.
-    Unfinished,
+    Unfinished = 3,
     // A damaged count, path, node or cover, or eight full levels.
-    Damaged,
+    Damaged = 4,
     // A split needs more nodes than are left.
-    NoRoom,
+    NoRoom = 5,
     // A log that recovery does not take.
-    BadLog,
+    BadLog = 6,
     // Capacity outside 1..40,000.
-    BadCapacity,
+    BadCapacity = 7,
     // Slice under the total of that capacity.
-    ShortSlice,
+    ShortSlice = 8,
     // No such desk, member or last served.
-    NoDesk,
+    NoDesk = 9,
     // The desk is full.
-    FullDesk,
+    FullDesk = 10,
     // Marks shorter than capacity.
-    ShortMarks,
+    ShortMarks = 11,
     // No event that can be carried out.
-    NoEvent,
+    NoEvent = 12,
 }
 
 impl Refusal {
     pub fn number(self) -> u64
         ensures { result ≡ number self }
     {
-        match self {
-            Refusal::ShortList => 1,
-            Refusal::NoPool => 2,
-            Refusal::Unfinished => 3,
-            Refusal::Damaged => 4,
-            Refusal::NoRoom => 5,
-            Refusal::BadLog => 6,
-            Refusal::BadCapacity => 7,
-            Refusal::ShortSlice => 8,
-            Refusal::NoDesk => 9,
-            Refusal::FullDesk => 10,
-            Refusal::ShortMarks => 11,
-            Refusal::NoEvent => 12,
-        }
+        self as u64
     }
 }

@@ -2,7 +2,7 @@
 ghost use Rattle.std.specs.Prelude.{◌≤◌, length};
 ghost use Rattle.words.specs.Pool.{list_words};
 
-use crate::kind::{FENCE, FLUSH, STORE};
+use crate::event::Event;
 use crate::limits::Pool;
 
 // A lent list with room for every plan, and how many events were written into it.
@@ -14,9 +14,10 @@ pub struct EventList<'a> {
 }
 
 impl<'a> EventList<'a> {
-    ghost use Rattle.std.specs.Prelude.{◌+◌, ◌*◌, ◌<◌, ◌≡◌, [], ◌∷◌, set};
+    ghost use Rattle.std.specs.Prelude.{◌+◌, ◌<◌, ◌≡◌, [], ◌∷◌};
     ghost use Rattle.words.specs.Pool.{events_most};
-    ghost use Rattle.words.specs.Event.{store, flush, fence, top_byte};
+    ghost use Rattle.words.specs.declared.event.Event.TheVariants.{Store as store, Flush as flush, Fence as fence};
+    ghost use Rattle.words.specs.Event.{number_of, top_byte};
     ghost use Rattle.words.specs.Blocks.{once};
     ghost use Rattle.words.specs.Written.{Wrote};
 
@@ -32,17 +33,12 @@ impl<'a> EventList<'a> {
         }
     }
 
-    // The two words of an event: the kind in the top byte with the number below it, then the value.
-    fn write(&mut self, kind: u64, number: u64, value: u64)
-        requires { (self.old.events < events_most) × (kind ≤ 3) × (number < top_byte) }
-        ensures same { self.new.words.ghost_name ≡ self.old.words.ghost_name }
-        ensures next { self.new.events ≡ self.old.events + 1 }
-        ensures words { self.new.words.now
-            ≡ set (set self.old.words.now (self.old.events * 2) (kind * top_byte + number)) (self.old.events * 2 + 1) value }
+    fn write(&mut self, event: Event)
+        requires { (self.old.events < events_most) × (number_of event < top_byte) }
+        ensures { Wrote (event ∷ []) self.old self.new }
     {
         let at = (self.events as usize) * 2;
-        self.words[at] = (kind << 56) | number;
-        self.words[at + 1] = value;
+        (self.words[at], self.words[at + 1]) = event.words();
         self.events += 1;
     }
 
@@ -50,21 +46,21 @@ impl<'a> EventList<'a> {
         requires { (self.old.events < events_most) × (word < top_byte) }
         ensures { Wrote (store word value ∷ []) self.old self.new }
     {
-        self.write(STORE, word, value);
+        self.write(Event::Store(word, value));
     }
 
     pub fn flush(&mut self, line: u64)
         requires { (self.old.events < events_most) × (line < top_byte) }
         ensures { Wrote (flush line ∷ []) self.old self.new }
     {
-        self.write(FLUSH, line, 0);
+        self.write(Event::Flush(line));
     }
 
     pub fn fence(&mut self)
         requires { self.old.events < events_most }
         ensures { Wrote (fence ∷ []) self.old self.new }
     {
-        self.write(FENCE, 0, 0);
+        self.write(Event::Fence);
     }
 
     // One word stored, its line flushed, a fence.

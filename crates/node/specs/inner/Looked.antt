@@ -1,5 +1,6 @@
 -- What looking at a node asks and answers.
-use Rattle.std.specs.Prelude.{ℕ, ◌+◌, ◌≤◌, ◌≡◌, List, Bool, true, ◌&&◌, length, ltb, eqb, if◌then◌else◌}
+use Rattle.std.specs.Prelude.{ℕ, ◌+◌, ◌≤◌, ◌≡◌, List, Bool, true, false, length, ltb, eqb, if◌then◌else◌}
+use Rattle.std.specs.Prelude.{Option, Some, None, unwrap_or}
 use Rattle.words.specs.Pool.{node_at, node_words, capacity_most}
 use Rattle.node.specs.Lists.{has, upto, last_of}
 use Rattle.node.specs.View.{View, keys, rank, good, no_end}
@@ -15,18 +16,23 @@ pub record Inside (m : List ℕ) (k : ℕ) : Type 0 where
 
 -- the upper end of a cover, itself not in it
 abbrev pub end_of : Cover → ℕ
-end_of c = if c.open then no_end else c.hi
+end_of c = unwrap_or c.hi no_end
 
 -- the last of n rising keys is below an upper end, and so all are
 abbrev pub ends : ℕ → ℕ → ℕ → Bool
 ends hi n last = if eqb n 0 then true else ltb last hi
 
--- the answer for a node that says u, with a least number of entries, keys from a lower end on, and for a key: under an upper end the node
--- is good if the answer is and the last key is below that end; only then the answer counts, and has the last key
-pub record Looked (least from key : ℕ) (u : View) (r : Look) : Type 0 where
-  pub good_is : (hi : ℕ) → good least from hi u ≡ (r.good && ends hi (length u.records) r.last)
-  pub after_is : r.good ≡ true → r.after ≡ upto key (keys u.records)
-  pub last_is : r.good ≡ true → r.last ≡ last_of from (keys u.records)
+-- what is seen of a node that says u, with a least number of entries, keys from a lower end on, and for a key: under an upper end the node
+-- is good if the last key is below that end
+pub record LookedGood (least from key : ℕ) (u : View) (r : Look) : Type 0 where
+  pub good_is : (hi : ℕ) → good least from hi u ≡ ends hi (length u.records) r.last
+  pub after_is : r.after ≡ upto key (keys u.records)
+  pub last_is : r.last ≡ last_of from (keys u.records)
+
+-- the answer: nothing of a node that is good under no upper end
+abbrev pub Looked : ℕ → ℕ → ℕ → View → Option Look → Type 0
+Looked least from key u None = (hi : ℕ) → good least from hi u ≡ false
+Looked least from key u (Some r) = LookedGood least from key u r
 
 -- the rank of a key in a node that says u, and whether it is there
 pub record Placed (key : ℕ) (u : View) (r : Place) : Type 0 where

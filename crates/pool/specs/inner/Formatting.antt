@@ -1,6 +1,7 @@
 -- What the functions under format write. The promise of format does not rest on these.
 use Rattle.std.specs.Prelude.{ℕ, List, [], ◌∷◌, ◌++◌, take, drop}
-use Rattle.words.specs.Event.{Event, fence}
+use Rattle.words.specs.declared.event.Event.{Event}
+use Rattle.words.specs.declared.event.Event.TheVariants.{Fence as fence}
 use Rattle.words.specs.Blocks.{stores, flushes, lines}
 use Rattle.change.specs.Format.{fresh_words}
 

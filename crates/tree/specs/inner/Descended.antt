@@ -1,13 +1,12 @@
 -- What the code of the way down asks and answers.
-use Rattle.std.specs.Prelude.{ℕ, ◌≤◌, ◌≡◌, List, [], true, length, get_or, take, drop}
+use Rattle.std.specs.Prelude.{ℕ, ◌≤◌, ◌≡◌, List, [], true, length, get_or, take, drop, Result, Ok, Err}
 use Rattle.words.specs.Event.{at}
 use Rattle.node.specs.Lists.{has, all_below}
 use Rattle.node.specs.Slot.{count, names, entries}
 use Rattle.node.specs.View.{view, keys, rank, slot_at}
 use Rattle.node.specs.inner.Looked.{Inside}
 use Rattle.tree.specs.declared.descend.Seat.{Seat}
-use Rattle.tree.specs.declared.descend.Descent.{Descent}
-use Rattle.tree.specs.declared.descend.Descent.TheVariants.{Fault, Leaf}
+use Rattle.tree.specs.declared.descend.Fault.{Fault}
 use Rattle.tree.specs.Kids.{Kid, kids}
 use Rattle.tree.specs.Path.{Way, failed, leaf, levels_above, way_to}
 
@@ -41,9 +40,9 @@ pub record Seated (m : List ℕ) (key : ℕ) (s : Seat) : Type 0 where
   pub there_is : s.there ≡ has key (keys (view m s.leaf).records)
 
 -- the answer to the way down to a key: the node at fault, or the leaf
-abbrev pub Descended : List ℕ → ℕ → Descent → Type 0
-Descended m key (Fault k) = way_to m key ≡ failed k
-Descended m key (Leaf s) = Seated m key s
+abbrev pub Descended : List ℕ → ℕ → Result Seat Fault → Type 0
+Descended m key (Err f) = way_to m key ≡ failed f.node
+Descended m key (Ok s) = Seated m key s
 
 -- the path to the leaf of a key: the leaf, then a node for each level above
 pub record Pathed (m : List ℕ) (key : ℕ) (path : List ℕ) : Type 0 where

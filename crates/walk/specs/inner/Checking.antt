@@ -1,9 +1,8 @@
 -- What the parts of the whole-pool check ask and answer, in the words of the walk of `tree`.
-use Rattle.std.specs.Prelude.{ℕ, ◌+◌, ◌*◌, ◌≤◌, ◌≡◌, List, Bool, true, not, length, take, drop, if◌then◌else◌}
+use Rattle.std.specs.Prelude.{ℕ, ◌+◌, ◌*◌, ◌≤◌, ◌≡◌, List, Bool, true, not, length, take, Result, Ok, Err, if◌then◌else◌}
 use Rattle.words.specs.Pool.{capacity_most, total_of}
 use Rattle.words.specs.Event.{at}
-use Rattle.node.specs.Lists.{all_below}
-use Rattle.node.specs.Slot.{byte, count, names, entries}
+use Rattle.node.specs.Slot.{byte}
 use Rattle.node.specs.View.{view, slot_at}
 use Rattle.node.specs.inner.Looked.{end_of}
 use Rattle.tree.specs.Header.{capacity_of, used_of, form_agrees, counts_agree}
@@ -12,8 +11,7 @@ use Rattle.tree.specs.Kids as k
 use Rattle.tree.specs.Check as t
 use Rattle.walk.specs.declared.walking.Kid.{Kid}
 use Rattle.walk.specs.declared.walking.Seen.{Seen}
-use Rattle.walk.specs.declared.walking.Walk.{Walk}
-use Rattle.walk.specs.declared.walking.Walk.TheVariants.{Fault, Going}
+use Rattle.tree.specs.declared.descend.Fault.{Fault}
 
 -- a child, what was seen and how the walk goes, as the definitions have them, the last two with the marks
 abbrev pub kid_of : Kid → k.Kid
@@ -22,21 +20,17 @@ kid_of c = k.kid c.number c.cover.lo (end_of c.cover)
 abbrev pub seen_with : Seen → List ℕ → t.Seen
 seen_with s marks = record { marks = marks; last = s.last; nodes = s.nodes; records = s.records }
 
-abbrev pub walk_with : Walk → List ℕ → t.Walk
-walk_with (Fault k) marks = t.fault k marks
-walk_with (Going s) marks = t.going (seen_with s marks)
-
--- the children of node j from a slot on: c is the one in the slot, and covers all that are left
-abbrev pub kids_left : List ℕ → ℕ → ℕ → Kid → List k.Kid
-kids_left m j slot c = k.kids_from c.number c.cover.lo (end_of c.cover) (drop slot (view m j).records)
+abbrev pub walk_with : Result Seen Fault → List ℕ → t.Walk
+walk_with (Err f) marks = t.fault f.node marks
+walk_with (Ok s) marks = t.going (seen_with s marks)
 
 -- a leaf that is marked: its own faults, then the earlier leaf's link
-abbrev pub leaf_walk : List ℕ → k.Kid → Seen → Walk
+abbrev pub leaf_walk : List ℕ → k.Kid → Seen → Result Seen Fault
 leaf_walk m c s =
     let u = view m c.number in
-    if not (k.fits k.leaf_least c u) then Fault c.number
-    else if not (t.links_to m s.last c.number) then Fault s.last
-    else Going (record { last = c.number; nodes = s.nodes + 1; records = s.records + length u.records })
+    if not (k.fits k.leaf_least c u) then Err (record { node = c.number })
+    else if not (t.links_to m s.last c.number) then Err (record { node = s.last })
+    else Ok (record { last = c.number; nodes = s.nodes + 1; records = s.records + length u.records })
 
 -- the nodes 1 to used lie inside the pool
 pub record Room (m : List ℕ) : Type 0 where
@@ -67,22 +61,13 @@ pub record Ready (m : List ℕ) (s : t.Seen) : Type 0 where
   pub nodes_in : s.nodes + occ 0 (take (capacity_of m) s.marks) ≤ capacity_of m
   pub records_in : s.records ≤ byte * s.nodes
 
--- the slot word of node k names good entries, and the slot is one of its children's, 0 being the leftmost
-pub record Slots (m : List ℕ) (k w slot : ℕ) : Type 0 where
-  pub first : 1 ≤ k
-  pub most : k ≤ used_of m
-  pub word_is : w ≡ at m (slot_at k)
-  pub slot_in : slot ≤ count w
-  pub count_in : count w ≤ entries
-  pub names_low : all_below entries (names w) ≡ true
-
 -- a walk that goes on can do so
 abbrev pub ReadyAfter : List ℕ → t.Walk → Type 0
 ReadyAfter m (t.fault k marks) = Unit {0}
 ReadyAfter m (t.going s) = Ready m s
 
 -- the answer r and the marks after it are those of the walk w
-pub record Walks (m : List ℕ) (w : t.Walk) (r : Walk) (marks : List ℕ) : Type 0 where
+pub record Walks (m : List ℕ) (w : t.Walk) (r : Result Seen Fault) (marks : List ℕ) : Type 0 where
   pub walk_is : walk_with r marks ≡ w
   pub ready : ReadyAfter m w
 

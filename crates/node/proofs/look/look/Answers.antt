@@ -1,9 +1,8 @@
 -- Invariant: the whole pass comes to what the pass from here on comes to, and no more keys are counted than were read.
-use borrow.Author.Rules.{rules}
 use mathlib.Core.Path.{◌∙◌, sym}
 use mathlib.Core.Bool.{Bool}
 use Prim.Native.Nat.{◌+◌, ◌≤◌, ◌<◌}
-use native.Mathlib.Nat.{sub-zero, lt_of_le_of_lt}
+use native.Mathlib.Nat.{lt_of_le_of_lt}
 use native.Mathlib.Omega.{arith}
 use borrow.Author.Tests.{lt-ltb, le-ltb}
 use lib.Bits.{bit_and, and_mask}
@@ -14,38 +13,30 @@ use Rattle.node.proofs.Tests.{bit_le}
 use Rattle.node.proofs.Walks.{walk_high, walk_fault, walk_on, walk_end}
 use Rattle.node.proofs.Walks.{none_named, too_few, too_many, walked}
 use Rattle.node.proofs.look.look.Goals as goal
+use Rattle.node.proofs.look.look.Goals.{then-n-least-via-then-n-least, then-n-least-via-else-n-least+then-n-gt-ENTRIES}
 
 pub returns-then-n-eq0 : goal.returns-then-n-eq0
 returns-then-n-eq0 c =
     let a = c.args in
-    none_named a.least a.from a.key a.pool.now a.k c.requires.1 c.count-n.ensures c.if-n-eq0.true
+    rw c.then_some.ensures (none_named a.least a.from a.key a.pool.now a.k c.requires.1 c.count-n.ensures c.if-n-eq0.true)
 
 pub returns-then-n-least : goal.returns-then-n-least
 returns-then-n-least c =
     let a = c.args in
-    too_few a.least a.from a.key a.pool.now a.k c.requires.1 c.count-n.ensures c.if-n-least.true
-
-pub returns-then-n-gt-ENTRIES : goal.returns-then-n-gt-ENTRIES
-returns-then-n-gt-ENTRIES c =
-    let a = c.args in
-    too_many a.least a.from a.key a.pool.now a.k c.requires.1 c.count-n.ensures c.if-n-gt-ENTRIES.true
-
-pub loop-j-init : goal.loop-j-init
-loop-j-init c = (search rules, search rules, rw sub-zero)
+    elim c.then-n-least.branch [
+      | then-n-least-via-then-n-least w ↦ too_few a.least a.from a.key a.pool.now a.k c.requires.1 c.count-n.ensures w.if-n-least.true
+      | then-n-least-via-else-n-least+then-n-gt-ENTRIES w ↦
+          too_many a.least a.from a.key a.pool.now a.k c.requires.1 c.count-n.ensures w.if-n-gt-ENTRIES.true
+    ]
 
 pub returns-then-e-ge-ENTRIES : goal.returns-then-e-ge-ENTRIES
 returns-then-e-ge-ENTRIES c =
     let i = c.loop-j in
     let a = c.args in
     walked a.least a.from a.key a.pool.now a.k c.requires.1 c.count-n.ensures (omega arith) (omega arith)
-    (i.invariant.2
+    (i.invariant.1
     ∙ walk_high _ _ _ i.j i.last i.after _ i.rest (omega arith) (and_mask i.rest 8)
     (le-ltb (bit_and i.rest 255) entries c.if-e-ge-ENTRIES.true))
-
-pub record_key-x-requires : goal.record_key-x-requires
-record_key-x-requires c =
-    let entry_low : bit_and c.loop-j.rest 255 < entries = let h = c.if-e-ge-ENTRIES.false in omega arith in
-    (c.requires.0, entry_low)
 
 pub returns-then-not-follows : goal.returns-then-not-follows
 returns-then-not-follows c =
@@ -54,7 +45,7 @@ returns-then-not-follows c =
     let fault = sym c.follows.ensures ∙ c.if-not-follows.true in
     let a = c.args in
     walked a.least a.from a.key a.pool.now a.k c.requires.1 c.count-n.ensures (omega arith) (omega arith)
-    (i.invariant.2
+    (i.invariant.1
     ∙ walk_fault _ _ _ i.j i.last i.after _ i.rest (omega arith) (and_mask i.rest 8)
     (lt-ltb (bit_and i.rest 255) entries entry_low) (rw (← c.record_key-x.ensures) fault))
 
@@ -71,9 +62,8 @@ loop-j-preserved c =
     let after_le : let i = c.loop-j in i.after + bool_byte is_upto ≤ i.j + 1 = omega (arith, bit_le is_upto) in
     let i = c.loop-j in
     let on = sym c.follows.ensures ∙ c.if-not-follows.false in (
-      search rules,
       after_le,
-      i.invariant.2 ∙ rw c.record_key-x.ensures
+      i.invariant.1 ∙ rw c.record_key-x.ensures
           (walk_on _ _ _ i.j i.last i.after _ i.rest (omega arith) (and_mask i.rest 8)
           (lt-ltb (bit_and i.rest 255) entries entry_low) (rw (← c.record_key-x.ensures) on)),
     )
@@ -83,5 +73,5 @@ returns c =
     let i = c.loop-j in
     let a = c.args in
     walked a.least a.from a.key a.pool.now a.k c.requires.1 c.count-n.ensures (omega arith) (omega arith)
-    (i.invariant.2
+    (i.invariant.1
     ∙ walk_end _ _ _ i.j i.last i.after _ i.rest (omega arith))

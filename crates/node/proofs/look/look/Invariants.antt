@@ -7,8 +7,5 @@ use Rattle.node.proofs.look.look.Given as goal
 
 abbrev pub invariant-loop-j : goal.invariant-loop-j
 invariant-loop-j l =
-    (l.j ≤ l.n) × (l.after ≤ l.j) × (walk (key_of l.pool l.k) entries l.key 0 l.from 0 (bytes l.n (l.w / byte))
+    (l.after ≤ l.j) × (walk (key_of l.pool l.k) entries l.key 0 l.from 0 (bytes l.n (l.w / byte))
     ≡ walk (key_of l.pool l.k) entries l.key l.j l.last l.after (bytes (l.n - l.j) l.rest))
-
-abbrev pub decreases-loop-j : goal.decreases-loop-j
-decreases-loop-j l = l.n - l.j

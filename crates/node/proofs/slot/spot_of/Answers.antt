@@ -1,28 +1,28 @@
 -- Invariant: the spot is the lowest from i on that is not named.
-use borrow.Author.Rules.{rules}
-use mathlib.Core.Path.{◌∙◌, sym}
+use mathlib.Core.Path.{◌≡◌, ◌∙◌, sym}
 use native.Mathlib.Omega.{arith}
 use Rattle.node.specs.Slot.{entries}
 use Rattle.node.proofs.Spots.{spot_from, lowest_here, lowest_on, lowest_end}
 use Rattle.node.proofs.slot.spot_of.Goals as goal
 
 pub loop-i-init : goal.loop-i-init
-loop-i-init c = (search rules, spot_from _)
+loop-i-init c = spot_from _
 
 pub returns-then-not-marked : goal.returns-then-not-marked
 returns-then-not-marked c =
     let free =
     sym (c.marks_of-seen.ensures c.loop-i.i (omega arith))
     ∙ sym c.marked.ensures ∙ c.if-not-marked.true in
-    (sym (c.loop-i.invariant.1 ∙ lowest_here entries c.loop-i.i _ (omega arith) free), omega arith)
+    (sym (c.loop-i.invariant ∙ lowest_here entries c.loop-i.i _ (omega arith) free), omega arith)
 
 pub loop-i-preserved : goal.loop-i-preserved
 loop-i-preserved c =
     let held =
     sym (c.marks_of-seen.ensures c.loop-i.i (omega arith))
     ∙ sym c.marked.ensures ∙ c.if-not-marked.false in
-    (search rules, c.loop-i.invariant.1 ∙ lowest_on entries c.loop-i.i _ (omega arith) held)
+    c.loop-i.invariant ∙ lowest_on entries c.loop-i.i _ (omega arith) held
 
 pub returns : goal.returns
 returns c =
-    (sym (c.loop-i.invariant.1 ∙ lowest_end entries c.loop-i.i _ (omega arith)), omega arith)
+    let past : c.loop-i.i ≡ entries = omega arith in
+    (sym (c.loop-i.invariant ∙ rw past (lowest_end entries entries _ (omega arith))), omega arith)

@@ -1,15 +1,19 @@
 -- A node that is good has a place for the key.
 use Rattle.node.proofs.Ends.{seen_good}
 use Rattle.node.proofs.Views.{good_parts, good_sound}
+use Rattle.node.specs.View.{view}
 use Rattle.split.proofs.ranking.rank_of.Goals as goal
 
-pub place-at-requires : goal.place-at-requires
-place-at-requires c =
-    let l = c.look-seen.ensures in
-    record {
-      inside = (c.requires.0.inside, c.requires.1, good_sound _ (good_parts c.requires.0.good_is));
-      after_value = l.after_is (seen_good l _ c.requires.0.good_is);
-    }
+pub unwrap-seen-requires : goal.unwrap-seen-requires
+unwrap-seen-requires c =
+    let a = c.args in
+    seen_good 0 0 a.key (view a.pool.now a.k) _ c.look.ensures _ c.requires.0.good_is
+
+pub place-requires : goal.place-requires
+place-requires c = record {
+  inside = (c.requires.0.inside, c.requires.1, good_sound _ (good_parts c.requires.0.good_is));
+  after_value = (rw c.unwrap-seen.ensures at c.look.ensures).after_is;
+}
 
 pub returns : goal.returns
-returns c = c.place-at.ensures.rank_is
+returns c = c.place.ensures.rank_is

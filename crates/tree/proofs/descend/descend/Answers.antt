@@ -3,7 +3,6 @@ use mathlib.Core.Path.{◌≡◌, ◌∙◌, sym}
 use mathlib.Core.Bool.{true}
 use Prim.Native.Nat.{◌≤◌}
 use native.Mathlib.Omega.{arith}
-use borrow.Author.Tests.{not-true, not-false}
 use Rattle.words.specs.Tests.{within}
 use Rattle.node.specs.Slot.{count}
 use Rattle.node.specs.inner.Looked.{Inside}
@@ -53,25 +52,25 @@ slot_word-slot-requires c =
     let lies_inside : Inside c.args.pool.now c.loop-key.node = inside _ c.requires counts_ok _ used_ok in
     lies_inside
 
-pub look-seen-requires : goal.look-seen-requires
-look-seen-requires c =
+pub look-requires : goal.look-requires
+look-requires c =
     let counts_ok : counts_agree c.args.pool.now ≡ true = sym c.counts_agree.ensures ∙ c.if-not-counts_agree.false in
     let used_ok : within 1 c.loop-key.node (used_of c.args.pool.now) ≡ true
     = sym c.in_use.ensures ∙ c.if-not-in_use.false in
     let lies_inside : Inside c.args.pool.now c.loop-key.node = inside _ c.requires counts_ok _ used_ok in
     (lies_inside, c.slot_word-slot.ensures)
 
-pub returns-then-not-seen : goal.returns-then-not-seen
-returns-then-not-seen c =
+pub returns-in_default : goal.returns-in_default
+returns-in_default c =
     let used_ok : within 1 c.loop-key.node (used_of c.args.pool.now) ≡ true
     = sym c.in_use.ensures ∙ c.if-not-in_use.false in
-    bad_node _ _ c.loop-key.invariant used_ok c.look-seen.ensures (not-true _ c.if-not-seen.true)
+    bad_node _ _ c.loop-key.invariant used_ok c.in_default.ensures
 
 pub returns-then-top-seen : goal.returns-then-top-seen
 returns-then-top-seen c =
     let used_ok : within 1 c.loop-key.node (used_of c.args.pool.now) ≡ true
     = sym c.in_use.ensures ∙ c.if-not-in_use.false in
-    too_high _ _ c.loop-key.invariant used_ok c.look-seen.ensures (not-false _ c.if-not-seen.false) c.if-top-seen.true
+    too_high _ _ c.loop-key.invariant used_ok c.in-Some.ensures c.if-top-seen.true
 
 pub place-at-requires : goal.place-at-requires
 place-at-requires c =
@@ -79,18 +78,17 @@ place-at-requires c =
     = sym c.in_use.ensures ∙ c.if-not-in_use.false in
     let counts_ok : counts_agree c.args.pool.now ≡ true = sym c.counts_agree.ensures ∙ c.if-not-counts_agree.false in
     let lies_inside : Inside c.args.pool.now c.loop-key.node = inside _ c.requires counts_ok _ used_ok in
-    let good = not-false _ c.if-not-seen.false in
-    let g = good_node _ _ c.loop-key.invariant used_ok c.look-seen.ensures good c.if-top-seen.false in
+    let g = good_node _ _ c.loop-key.invariant used_ok c.in-Some.ensures c.if-top-seen.false in
     record {
       inside = (lies_inside, c.slot_word-slot.ensures, good_sound _ g);
-      after_value = c.look-seen.ensures.after_is good;
+      after_value = c.in-Some.ensures.after_is;
     }
 
 pub returns-then-left-eq0 : goal.returns-then-left-eq0
 returns-then-left-eq0 c =
     let used_ok : within 1 c.loop-key.node (used_of c.args.pool.now) ≡ true
     = sym c.in_use.ensures ∙ c.if-not-in_use.false in
-    leaf_is _ _ c.loop-key.invariant used_ok c.look-seen.ensures (not-false _ c.if-not-seen.false) c.if-top-seen.false
+    leaf_is _ _ c.loop-key.invariant used_ok c.in-Some.ensures c.if-top-seen.false
     c.if-left-eq0.true c.slot_word-slot.ensures c.place-at.ensures
 
 pub child-node-requires : goal.child-node-requires
@@ -100,10 +98,9 @@ child-node-requires c =
     let counts_ok : counts_agree c.args.pool.now ≡ true = sym c.counts_agree.ensures ∙ c.if-not-counts_agree.false in
     let lies_inside : Inside c.args.pool.now c.loop-key.node = inside _ c.requires counts_ok _ used_ok in
     let child_ok : let m = c.args.pool.now in Named m c.loop-key.node c.slot_word-slot.result
-    × (c.look-seen.result.after ≤ count c.slot_word-slot.result) = let good = not-false _ c.if-not-seen.false in
-    let g = good_node _ _ c.loop-key.invariant used_ok c.look-seen.ensures good c.if-top-seen.false in (
+    × (c.in-Some.seen.after ≤ count c.slot_word-slot.result) = let g = good_node _ _ c.loop-key.invariant used_ok c.in-Some.ensures c.if-top-seen.false in (
       good_named g lies_inside c.slot_word-slot.ensures,
-      few_before _ _ c.look-seen.ensures good c.slot_word-slot.ensures,
+      few_before _ _ c.in-Some.ensures c.slot_word-slot.ensures,
     ) in
     child_ok
 
@@ -114,10 +111,9 @@ first_key-from-requires c =
     let counts_ok : counts_agree c.args.pool.now ≡ true = sym c.counts_agree.ensures ∙ c.if-not-counts_agree.false in
     let lies_inside : Inside c.args.pool.now c.loop-key.node = inside _ c.requires counts_ok _ used_ok in
     let child_ok : let m = c.args.pool.now in Named m c.loop-key.node c.slot_word-slot.result
-    × (c.look-seen.result.after ≤ count c.slot_word-slot.result) = let good = not-false _ c.if-not-seen.false in
-    let g = good_node _ _ c.loop-key.invariant used_ok c.look-seen.ensures good c.if-top-seen.false in (
+    × (c.in-Some.seen.after ≤ count c.slot_word-slot.result) = let g = good_node _ _ c.loop-key.invariant used_ok c.in-Some.ensures c.if-top-seen.false in (
       good_named g lies_inside c.slot_word-slot.ensures,
-      few_before _ _ c.look-seen.ensures good c.slot_word-slot.ensures,
+      few_before _ _ c.in-Some.ensures c.slot_word-slot.ensures,
     ) in
     child_ok
 
@@ -128,15 +124,14 @@ last_key-top-requires c =
     let counts_ok : counts_agree c.args.pool.now ≡ true = sym c.counts_agree.ensures ∙ c.if-not-counts_agree.false in
     let lies_inside : Inside c.args.pool.now c.loop-key.node = inside _ c.requires counts_ok _ used_ok in
     let child_ok : let m = c.args.pool.now in Named m c.loop-key.node c.slot_word-slot.result
-    × (c.look-seen.result.after ≤ count c.slot_word-slot.result) = let good = not-false _ c.if-not-seen.false in
-    let g = good_node _ _ c.loop-key.invariant used_ok c.look-seen.ensures good c.if-top-seen.false in (
+    × (c.in-Some.seen.after ≤ count c.slot_word-slot.result) = let g = good_node _ _ c.loop-key.invariant used_ok c.in-Some.ensures c.if-top-seen.false in (
       good_named g lies_inside c.slot_word-slot.ensures,
-      few_before _ _ c.look-seen.ensures good c.slot_word-slot.ensures,
+      few_before _ _ c.in-Some.ensures c.slot_word-slot.ensures,
     ) in
     let h = child_ok in (
       h.0,
       h.1,
-      some_covered _ _ c.loop-key.invariant used_ok c.look-seen.ensures (not-false _ c.if-not-seen.false) c.if-top-seen.false,
+      some_covered _ _ c.loop-key.invariant used_ok c.in-Some.ensures c.if-top-seen.false,
     )
 
 pub overflow_sub-left-in-loop-key : goal.overflow_sub-left-in-loop-key
@@ -149,5 +144,5 @@ pub loop-key-preserved : goal.loop-key-preserved
 loop-key-preserved c =
     let used_ok : within 1 c.loop-key.node (used_of c.args.pool.now) ≡ true
     = sym c.in_use.ensures ∙ c.if-not-in_use.false in
-    go_down _ _ c.loop-key.invariant used_ok c.look-seen.ensures (not-false _ c.if-not-seen.false) c.if-top-seen.false
+    go_down _ _ c.loop-key.invariant used_ok c.in-Some.ensures c.if-top-seen.false
     c.if-left-eq0.false (c.child-node.ensures _ _) (c.first_key-from.ensures _) (c.last_key-top.ensures _)

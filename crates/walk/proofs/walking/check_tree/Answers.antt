@@ -1,8 +1,14 @@
--- `pool::check_tree` meets its contract: the walk from the root, and its end.
+-- `walk::check_tree` meets its contract: the walk from the root, and its end.
+use mathlib.Core.Path.{◌≡◌}
+use mathlib.Core.List.{◌++◌}
 use borrow.Author.Rules.{rules}
-use Rattle.walk.proofs.Checks.{least, some_levels, first_ready, tree_stops, tree_ends}
+use lib.ListN.{drop}
+use Rattle.tree.specs.Header.{capacity_of}
+use Rattle.tree.specs.Check.{zeroed}
+use Rattle.walk.proofs.Checks.{cleared, least, some_levels, first_ready, tree_stops, tree_ends}
 use Rattle.walk.proofs.Walks.{goes_on}
 use Rattle.walk.proofs.walking.check_tree.Goals as goal
+use Rattle.walk.proofs.walking.check_tree.Goals.{After-fill}
 
 pub bounds-pool : goal.bounds-pool
 bounds-pool c = let long = least c.requires in search rules
@@ -11,28 +17,28 @@ pub bounds-pool-2 : goal.bounds-pool-2
 bounds-pool-2 c = let long = least c.requires in search rules
 
 pub bounds-pool-3 : goal.bounds-pool-3
-bounds-pool-3 c =
-    let long = least c.requires in
-    search rules
+bounds-pool-3 c = let long = least c.requires in search rules
 
 pub overflow_sub-levels : goal.overflow_sub-levels
 overflow_sub-levels c = some_levels c.requires
 
-pub check_node-walk-requires : goal.check_node-walk-requires
-check_node-walk-requires c =
-    first_ready c.requires c.unmark.ensures
+-- the first bytes, filled
+zeros : (c : After-fill) → c.fill.new.self ++ drop (capacity_of c.args.pool.now) c.args.marks.now
+    ≡ zeroed (capacity_of c.args.pool.now) c.args.marks.now
+zeros c = cleared _ _ c.requires.marks_in (c.fill.ensures.after (λ y e. e))
+
+pub check_node-requires : goal.check_node-requires
+check_node-requires c = first_ready c.requires (zeros (goal.at.check_node-requires c).After-fill)
 
 pub check_end-requires : goal.check_end-requires
-check_end-requires c =
-    let ready = goes_on c.check_node-walk.ensures c.in-Going.is in
-    (ready.room, ready.last_in)
+check_end-requires c = let ready = goes_on c.in-Ok.ensures in (ready.room, ready.last_in)
 
-pub returns-in-Fault : goal.returns-in-Fault
-returns-in-Fault c =
-    let end = tree_stops c.requires c.unmark.ensures c.check_node-walk.ensures c.in-Fault.is in
+pub returns-in-Err : goal.returns-in-Err
+returns-in-Err c =
+    let end = tree_stops c.requires (zeros (goal.at.returns-in-Err c).After-fill) c.in-Err.ensures in
     record { answer = end.0; marks = end.1 }
 
-pub returns-in-Going : goal.returns-in-Going
-returns-in-Going c =
-    let end = tree_ends c.requires c.unmark.ensures c.check_node-walk.ensures c.in-Going.is c.check_end.ensures in
+pub returns-in-Ok : goal.returns-in-Ok
+returns-in-Ok c =
+    let end = tree_ends c.requires (zeros (goal.at.returns-in-Ok c).After-fill) c.in-Ok.ensures c.check_end.ensures in
     record { answer = end.0; marks = end.1 }
