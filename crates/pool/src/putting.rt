@@ -1,12 +1,11 @@
 // Put: a key and its value into the leaf of the key.
-ghost use Rattle.std.specs.Prelude.{◌≤◌, ◌<◌, ◌≡◌, true, length};
+ghost use Rattle.std.specs.Prelude.{◌≤◌, ◌<◌, ◌≡◌, true};
 ghost use Rattle.words.specs.Pool as p;
 ghost use Rattle.node.specs.Lists.{all_below};
 ghost use Rattle.node.specs.Slot as s;
-ghost use Rattle.change.specs.Gate.{answered, list_after};
 ghost use Rattle.pool.specs.Promises.{PutPromise};
 ghost use Rattle.pool.specs.inner.Passing.{Admitted};
-ghost use Rattle.pool.specs.inner.Puts.{Replaces, Fills, put_there};
+ghost use Rattle.pool.specs.inner.Puts.{Replaces, Fills, Plans, put_there};
 
 use crate::crowded::put_full;
 use crate::gate::{pass_gate, pass_list};
@@ -14,60 +13,53 @@ use change::{Answer, Outcome};
 use node::Node;
 use node::slot::{count, name, spot, with_name};
 use tree::descend::Seat;
-use words::{Pool, Refusal, write_fence, write_flush, write_once, write_store};
+use words::{EventList, Pool, Refusal};
 
 // A present key: its value is stored.
-fn replace(list: &mut [u64], seat: Seat, value: u64) -> u64
-    requires list_words_in_bounds { (p.list_words ≤ length list.old) × (seat.leaf ≤ p.capacity_most) }
+fn replace(list: &mut EventList, seat: Seat, value: u64)
+    requires room { (list.old.events ≡ 0) × (seat.leaf ≤ p.capacity_most) }
     requires rank_bound { (seat.rank < s.count seat.slot) × (s.count seat.slot ≤ s.entries)
         × (all_below s.entries (s.names seat.slot) ≡ true) }
-    ensures { Replaces seat value list.old result list.new }
+    ensures { Replaces seat value list.old list.new }
 {
-    let word = Node::value_at(seat.leaf, name(seat.slot, seat.rank));
-    write_once(list, 0, word, value)
+    let entry = name(seat.slot, seat.rank);
+    list.once(Node::value_at(seat.leaf, entry), value);
 }
 
 // A leaf that is not full: key and value into the lowest unused entry, then the slot word.
-fn fill(list: &mut [u64], seat: Seat, key: u64, value: u64) -> u64
-    requires { (p.list_words ≤ length list.old) × (seat.leaf ≤ p.capacity_most) × (seat.rank ≤ s.count seat.slot)
+fn fill(list: &mut EventList, seat: Seat, key: u64, value: u64)
+    requires { (list.old.events ≡ 0) × (seat.leaf ≤ p.capacity_most) × (seat.rank ≤ s.count seat.slot)
         × (s.count seat.slot < s.entries) }
-    ensures { Fills seat (key, value) list.old result list.new }
+    ensures { Fills seat (key, value) list.old list.new }
 {
     let entry = spot(seat.slot);
     let word = Node::value_at(seat.leaf, entry);
-    let n1 = write_store(list, 0, Node::key_at(seat.leaf, entry), key);
-    let n2 = write_store(list, n1, word, value);
-    let n3 = write_flush(list, n2, Pool::line(word));
-    let n4 = write_fence(list, n3);
+    list.store(Node::key_at(seat.leaf, entry), key);
+    list.store(word, value);
+    list.flush(Pool::line(word));
+    list.fence();
     let slot = with_name(seat.slot, seat.rank, entry);
-    write_once(list, n4, Pool::node_at(seat.leaf), slot)
+    list.once(Pool::node_at(seat.leaf), slot);
 }
 
 // The leaf of the key was found.
 fn put_at(
     pool: &[u64],
-    list: &mut [u64],
+    list: &mut EventList,
     seat: Seat,
     key: u64,
     value: u64,
-) -> Result<Answer, Refusal>
-    requires { Admitted pool.now key seat × (p.list_words ≤ length list.old) }
-    ensures answer { result ≡ answered (put_there pool.now key value seat) }
-    ensures list { list.new ≡ list_after (put_there pool.now key value seat) list.old }
+) -> Result<Outcome, Refusal>
+    requires { Admitted pool.now key seat × (list.old.events ≡ 0) }
+    ensures { Plans (put_there pool.now key value seat) result list.old list.new }
 {
     if seat.there {
-        let events = replace(list, seat, value);
-        return Ok(Answer {
-            outcome: Outcome::Replaced,
-            events,
-        });
+        replace(list, seat, value);
+        return Ok(Outcome::Replaced);
     }
     if count(seat.slot) < Node::ENTRIES {
-        let events = fill(list, seat, key, value);
-        return Ok(Answer {
-            outcome: Outcome::New,
-            events,
-        });
+        fill(list, seat, key, value);
+        return Ok(Outcome::New);
     }
     put_full(pool, list, seat, key, value)
 }
@@ -77,5 +69,8 @@ pub fn put(pool: &[u64], list: &mut [u64], key: u64, value: u64) -> Result<Answe
 {
     pass_list(list)?;
     let seat = pass_gate(pool, key)?;
-    put_at(pool, list, seat, key, value)
+    let mut list = EventList::new(list);
+    let outcome = put_at(pool, &mut list, seat, key, value)?;
+    let events = list.events;
+    Ok(Answer { outcome, events })
 }
