@@ -1,24 +1,26 @@
 // A put into a full leaf: refused for want of room or of levels, or split.
-ghost use Rattle.std.specs.Prelude.{◌≡◌};
-ghost use Rattle.pool.specs.inner.Puts.{Full, Plans, put_there};
+ghost use Rattle.std.specs.Prelude.{◌≤◌, ◌≡◌, length};
+ghost use Rattle.words.specs.Pool.{list_words};
+ghost use Rattle.change.specs.Gate.{answered, list_after};
+ghost use Rattle.pool.specs.inner.Puts.{Full, new_with, put_there};
 
-use change::Outcome;
 use split::rising::nodes_needed;
 use split::splitting::split_put;
 use tree::descend::Seat;
 use tree::pathing::path_to;
 use words::{EventList, Pool, Refusal};
 
-// The leaf is full and has not the key. The nodes are counted before anything is written.
+// The leaf is full and has not the key. The nodes are counted before anything is written. It answers the number of events.
 pub fn put_full(
     pool: &[u64],
-    list: &mut EventList,
-    seat: Seat,
+    list: &mut [u64],
+    seat: &Seat,
     key: u64,
     value: u64,
-) -> Result<Outcome, Refusal>
-    requires { Full pool.now key seat × (list.old.events ≡ 0) }
-    ensures { Plans (put_there pool.now key value seat) result list.old list.new }
+) -> Result<u64, Refusal>
+    requires { Full pool.now key seat.now × (list_words ≤ length list.old) }
+    ensures answer { new_with result ≡ answered (put_there pool.now key value seat.now) }
+    ensures list { list.new ≡ list_after (put_there pool.now key value seat.now) list.old }
 {
     let path = path_to(pool, key);
     let path = &path[..pool[Pool::HEIGHT_AT as usize] as usize];
@@ -29,6 +31,7 @@ pub fn put_full(
     if Pool::HEIGHT_MOST < needed {
         return Err(Refusal::Damaged);
     }
-    split_put(pool, list, path, seat, (key, value));
-    Ok(Outcome::New)
+    let mut list = EventList::new(list);
+    split_put(pool, &mut list, path, seat, (key, value));
+    Ok(list.events)
 }

@@ -1,11 +1,12 @@
 // Put: a key and its value into the leaf of the key.
-ghost use Rattle.std.specs.Prelude.{◌≤◌, ◌<◌, ◌≡◌, true};
+ghost use Rattle.std.specs.Prelude.{◌≤◌, ◌<◌, ◌≡◌, true, length};
 ghost use Rattle.words.specs.Pool as p;
 ghost use Rattle.node.specs.Lists.{all_below};
 ghost use Rattle.node.specs.Slot as s;
+ghost use Rattle.change.specs.Gate.{answered, list_after};
 ghost use Rattle.pool.specs.Promises.{PutPromise};
 ghost use Rattle.pool.specs.inner.Passing.{Admitted};
-ghost use Rattle.pool.specs.inner.Puts.{Replaces, Fills, Plans, put_there};
+ghost use Rattle.pool.specs.inner.Puts.{Replaces, Fills, put_there};
 
 use crate::crowded::put_full;
 use crate::gate::{pass_gate, pass_list};
@@ -45,23 +46,36 @@ fn fill(list: &mut EventList, seat: Seat, key: u64, value: u64)
 // The leaf of the key was found.
 fn put_at(
     pool: &[u64],
-    list: &mut EventList,
+    list: &mut [u64],
     seat: Seat,
     key: u64,
     value: u64,
-) -> Result<Outcome, Refusal>
-    requires { Admitted pool.now key seat × (list.old.events ≡ 0) }
-    ensures { Plans (put_there pool.now key value seat) result list.old list.new }
+) -> Result<Answer, Refusal>
+    requires { Admitted pool.now key seat × (p.list_words ≤ length list.old) }
+    ensures answer { result ≡ answered (put_there pool.now key value seat) }
+    ensures list { list.new ≡ list_after (put_there pool.now key value seat) list.old }
 {
     if seat.there {
-        replace(list, seat, value);
-        return Ok(Outcome::Replaced);
+        let mut list = EventList::new(list);
+        replace(&mut list, seat, value);
+        return Ok(Answer {
+            outcome: Outcome::Replaced,
+            events: list.events,
+        });
     }
     if count(seat.slot) < Node::ENTRIES {
-        fill(list, seat, key, value);
-        return Ok(Outcome::New);
+        let mut list = EventList::new(list);
+        fill(&mut list, seat, key, value);
+        return Ok(Answer {
+            outcome: Outcome::New,
+            events: list.events,
+        });
     }
-    put_full(pool, list, seat, key, value)
+    let events = put_full(pool, list, &seat, key, value)?;
+    Ok(Answer {
+        outcome: Outcome::New,
+        events,
+    })
 }
 
 pub fn put(pool: &[u64], list: &mut [u64], key: u64, value: u64) -> Result<Answer, Refusal>
@@ -69,8 +83,5 @@ pub fn put(pool: &[u64], list: &mut [u64], key: u64, value: u64) -> Result<Answe
 {
     pass_list(list)?;
     let seat = pass_gate(pool, key)?;
-    let mut list = EventList::new(list);
-    let outcome = put_at(pool, &mut list, seat, key, value)?;
-    let events = list.events;
-    Ok(Answer { outcome, events })
+    put_at(pool, list, seat, key, value)
 }

@@ -13,9 +13,9 @@ use tree::descend::Seat;
 use words::{EventList, Pool};
 
 // Plans a put into the full leaf of the seat, which path begins with; the rest of the path are the nodes above it.
-pub fn split_put(pool: &[u64], list: &mut EventList, path: &[u64], seat: Seat, new: (u64, u64))
-    requires { ToSplit pool.now path.now seat new.0 × (list.old.events ≡ 0) }
-    ensures { Wrote (plan_events (split pool.now seat.leaf (drop 1 path.now) new)) list.old list.new }
+pub fn split_put(pool: &[u64], list: &mut EventList, path: &[u64], seat: &Seat, new: (u64, u64))
+    requires { ToSplit pool.now path.now seat.now new.0 × (list.old.events ≡ 0) }
+    ensures { Wrote (plan_events (split pool.now seat.now.leaf (drop 1 path.now) new)) list.old list.new }
 {
     let mut log = Log::new();
     let eight = Eight::of(pool, seat.leaf, seat.slot, seat.rank, new);

@@ -1,5 +1,5 @@
 -- What the steps of a put ask of the leaf.
-use Rattle.std.specs.Prelude.{ℕ, ◌≡◌, List, false, Result}
+use Rattle.std.specs.Prelude.{ℕ, ◌≡◌, List, false, Result, Ok, Err}
 use Rattle.words.specs.declared.write.EventList.{EventList}
 use Rattle.words.specs.declared.refusal.Refusal.{Refusal}
 use Rattle.words.specs.Written.{Wrote}
@@ -8,7 +8,9 @@ use Rattle.node.specs.View.{Record, View, rank}
 use Rattle.tree.specs.Path.{way_to}
 use Rattle.tree.specs.inner.Descended.{above_of}
 use Rattle.tree.specs.declared.descend.Seat.{Seat}
+use Rattle.change.specs.declared.Answer.{Answer}
 use Rattle.change.specs.declared.Outcome.{Outcome}
+use Rattle.change.specs.declared.Outcome.TheVariants.{New}
 use Rattle.change.specs.Gate.{Planned}
 use Rattle.change.specs.Put.{replace_events, fill_events, put_at}
 use Rattle.pool.specs.inner.Passing.{Admitted}
@@ -36,6 +38,11 @@ pub record Full (m : List ℕ) (key : ℕ) (s : Seat) : Type 0 where
   pub admitted : Admitted m key s
   pub absent : s.there ≡ false
   pub full : count s.slot ≡ entries
+
+-- a new record, with its event count
+abbrev pub new_with : Result ℕ Refusal → Result Answer Refusal
+new_with (Ok n) = Ok (record { outcome = New; events = n })
+new_with (Err why) = Err why
 
 -- what a put does at the leaf
 abbrev pub put_there : List ℕ → ℕ → ℕ → Seat → Planned Outcome

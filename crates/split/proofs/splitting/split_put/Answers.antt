@@ -29,7 +29,7 @@ write-requires c =
     let e = c.of-eight.ensures in
     let v = rw (e.0, e.1, e.2, c.new-log.ensures) at c.split_leaf-up.ensures in
     let few = planned_few c.requires.0 a.new in
-    done_room (split a.pool.now a.seat.leaf (rest_of a.path.now) a.new) (leaf_done c.requires.0 a.new v c.risen.ensures)
+    done_room (split a.pool.now a.seat.now.leaf (rest_of a.path.now) a.new) (leaf_done c.requires.0 a.new v c.risen.ensures)
     c.requires.1 few.0 few.2
 
 pub returns : goal.returns
@@ -38,5 +38,5 @@ returns c =
     let e = c.of-eight.ensures in
     let v = rw (e.0, e.1, e.2, c.new-log.ensures) at c.split_leaf-up.ensures in
     rw (← rest_is a.path.now)
-    (plan_written (split a.pool.now a.seat.leaf (rest_of a.path.now) a.new) (leaf_done c.requires.0 a.new v c.risen.ensures)
+    (plan_written (split a.pool.now a.seat.now.leaf (rest_of a.path.now) a.new) (leaf_done c.requires.0 a.new v c.risen.ensures)
     c.write.ensures)
