@@ -5,6 +5,7 @@ use mathlib.Core.List.{List, [], ◌∷◌}
 use mathlib.Core.Bool.{true, false}
 use native.Mathlib.Omega.{arith}
 use lib.ListN.{length, take, drop, get_or}
+use lib.Seq.{length-take-le}
 use borrow.Author.Tests.{lt-ltb, le-ltb, eq-eqb}
 use Rattle.std.specs.Prelude.{Ok}
 use Rattle.words.specs.Pool as p
@@ -27,7 +28,8 @@ use Rattle.change.specs.Steps.{full}
 use Rattle.change.specs.Plan.{plan_events}
 use Rattle.change.specs.Put.{needed, split, put_at}
 use Rattle.pool.specs.inner.Puts.{Full, put_there}
-use Rattle.split.specs.inner.Splitting.{Met, ToSplit, levels}
+use Rattle.split.specs.inner.Opened.{Met}
+use Rattle.split.specs.inner.Splitting.{ToSplit}
 use Rattle.split.proofs.Meets.{way_to_met}
 
 -- a path of a leaf and the nodes above it
@@ -70,38 +72,33 @@ module _ {m : List ℕ} {key : ℕ} {s : Seat} (f : Full m key s) where
         let h : height_of m ≡ suc (levels_above m) = omega (arith, (counts m counts_hold).height.0) in
         ap (λ (n : ℕ). take n path) h ∙ path_is path (levels_above m) s.leaf q.eight_is first_is ∙ rw rest_is refl
 
-    -- all of them
-    abbrev all : List ℕ
-    all = levels path (height_of m) (height_of m)
+    pub path_met : ((i : ℕ) → at m i < no_end) → Each (Met m) (take (height_of m) path)
+    path_met words = rw taken_are (way_to_met m key words f.admitted.form_is seated.way_is)
 
-    levels_are : all ≡ s.leaf ∷ above
-    levels_are = let none : height_of m - height_of m ≡ 0 = omega arith in rw none taken_are
-
-    pub path_met : ((i : ℕ) → at m i < no_end) → Each (Met m) all
-    path_met words = rw levels_are (way_to_met m key words f.admitted.form_is seated.way_is)
+    pub path_long : length (take (height_of m) path) ≡ height_of m
+    path_long = length-take-le (height_of m) path (omega (arith, (counts m counts_hold).height.1, q.eight_is))
 
     -- the nodes that are needed, as they were counted
-    module _ {n : ℕ} (counted : n ≡ needed m all) where
+    module _ {n : ℕ} (counted : n ≡ needed m (take (height_of m) path)) where
       needed_is : n ≡ needed m (s.leaf ∷ above)
-      needed_is = counted ∙ rw levels_are refl
+      needed_is = counted ∙ rw taken_are refl
 
-      pub to_split : ((i : ℕ) → at m i < no_end) → {size : ℕ} → p.list_words ≤ size → n ≤ p.height_most
-          → n ≤ capacity_of m - used_of m → ToSplit m path (height_of m) s.slot s.rank key size
-      to_split words room few free =
+      pub to_split : ((i : ℕ) → at m i < no_end) → n ≤ p.height_most → n ≤ capacity_of m - used_of m
+          → ToSplit m (take (height_of m) path) s key
+      to_split words few free =
           let c = counts m counts_hold in
-          let same : needed m (take (height_of m) path) ≡ n = rw (taken_are, needed_is) refl in
           record {
             form = f.admitted.form_is;
             counts = counts_hold;
-            words = room;
-            high = c.height.1;
-            some = c.height.0;
-            nodes = rw (taken_are ∙ sym levels_are) (path_met words);
-            slot_is = seated.slot_is ∙ rw first_is refl;
-            full_is = rw first_is full_is;
-            rank_is = seated.rank_is ∙ rw first_is refl;
-            need = rw same few;
-            free = rw same free;
+            high = omega (arith, path_long, c.height.1);
+            some = omega (arith, path_long, c.height.0);
+            nodes = path_met words;
+            leaf_is = rw taken_are refl;
+            slot_is = seated.slot_is;
+            full_is = full_is;
+            rank_is = seated.rank_is;
+            need = rw (← counted) few;
+            free = rw (← counted) free;
           }
 
       -- the returns: too few nodes, too many levels, or split
@@ -117,8 +114,8 @@ module _ {m : List ℕ} {key : ℕ} {s : Seat} (f : Full m key s) where
         pub full_split : n ≤ capacity_of m - used_of m → n ≤ p.height_most
             → put_there m key value s ≡ record {
               answer = Ok New;
-              events = plan_events (split m (get_or path 0 0) (drop 1 (take (height_of m) path)) (key, value));
+              events = plan_events (split m s.leaf (drop 1 (take (height_of m) path)) (key, value));
             }
         unfolding put_at
         full_split h k =
-            rw (taken_are, first_is, absent_is, full_is, le-ltb _ _ (rw needed_is at h), le-ltb _ _ (rw needed_is at k))
+            rw (taken_are, absent_is, full_is, le-ltb _ _ (rw needed_is at h), le-ltb _ _ (rw needed_is at k))

@@ -10,6 +10,7 @@ use Rattle.std.specs.Prelude.{Ok}
 use Rattle.words.specs.Pool.{line}
 use Rattle.words.specs.declared.event.Event.TheVariants.{Store as store, Flush as flush, Fence as fence}
 use Rattle.words.specs.Blocks.{once}
+use Rattle.words.specs.declared.write.EventList.{EventList}
 use Rattle.words.specs.Written.{Wrote}
 use Rattle.words.proofs.Written.{wrote_append}
 use Rattle.node.specs.Lists.{insert, all_below}
@@ -30,10 +31,10 @@ pub entry_low : (w place : ℕ) {e : ℕ} → (place < count w) × (count w ≤ 
 entry_low w place b e = rw e (below_at entries place (names w) b.2 (rw length_names b.0))
 
 module _ {u : View} {key : ℕ} {s : Seat} (h : Says u key s) (value : ℕ) where
-  pub filled : {e : ℕ} → e ≡ spot (names s.slot) → {x v f a b n n₁ n₂ n₃ n₄ : ℕ} {l l₁ l₂ l₃ l₄ l₅ : List ℕ}
+  pub filled : {e : ℕ} → e ≡ spot (names s.slot) → {x v f a b : ℕ} {l l₁ l₂ l₃ l₄ l₅ : EventList}
       → x ≡ key_at s.leaf e → v ≡ value_at s.leaf e → f ≡ line v → a ≡ slot_at s.leaf → b ≡ slot (insert s.rank e (names s.slot))
-      → Wrote (store x key ∷ []) 0 l n₁ l₁ → Wrote (store v value ∷ []) n₁ l₁ n₂ l₂ → Wrote (flush f ∷ []) n₂ l₂ n₃ l₃
-      → Wrote (fence ∷ []) n₃ l₃ n₄ l₄ → Wrote (once a b) n₄ l₄ n l₅ → Wrote (fill_events s.leaf u (key, value)) 0 l n l₅
+      → Wrote (store x key ∷ []) l l₁ → Wrote (store v value ∷ []) l₁ l₂ → Wrote (flush f ∷ []) l₂ l₃
+      → Wrote (fence ∷ []) l₃ l₄ → Wrote (once a b) l₄ l₅ → Wrote (fill_events s.leaf u (key, value)) l l₅
   filled {e} spot_is x v f a b c₁ c₂ c₃ c₄ c₅ =
       rw (h.names_are, h.rank_is, ← spot_is, entry_stored s.leaf e (key, value), ← b, ← x, ← v, ← f, ← a)
       (wrote_append c₁ (wrote_append c₂ (wrote_append c₃ (wrote_append c₄ c₅))))

@@ -4,12 +4,13 @@ use mathlib.Core.Path.{◌≡◌, ◌∙◌}
 use mathlib.Core.List.{List, [], ◌∷◌, ◌++◌, append_assoc}
 use native.Mathlib.Numerals.{add-one}
 use native.Mathlib.Omega.{arith}
-use lib.ListN.{length, get_or, drop, length-append, length-drop, drop_of_length-le}
+use lib.ListN.{length, get_or, drop, length-drop, drop_of_length-le}
 use lib.Seq.{drop-cons}
 use Rattle.words.specs.Lists.{count_from}
 use Rattle.words.specs.Pool.{line}
 use Rattle.words.specs.declared.event.Event.TheVariants.{Flush as flush}
 use Rattle.words.specs.Blocks.{stores, stored}
+use Rattle.words.specs.declared.write.EventList.{EventList}
 use Rattle.words.specs.Written.{Wrote}
 use Rattle.words.proofs.Written.{wrote_append}
 use Rattle.words.proofs.Blocks.{length_stores}
@@ -36,29 +37,22 @@ module _ (es : List Record) (long : length es ≡ 8) where
   pub upper_length : (new from : ℕ) → length (stores (laid new 0 (drop from es))) ≡ 2 * (8 - from)
   upper_length new from = length_stores (laid new 0 (drop from es)) ∙ length_laid new 0 (drop from es) ∙ rw (length-drop from es, long)
 
-  pub node_length : (new link from : ℕ)
-      → length (stores (new_node new link (drop from es)) ++ (flush (line (slot_at new)) ∷ [])) ≡ 3 + 2 * (8 - from)
-  node_length new link from =
-      omega (arith, length-append (stores (new_node new link (drop from es))) (flush (line (slot_at new)) ∷ []), upper_length new from)
-
-  pub node_written : (new link from : ℕ) {c n n₁ n₂ n₃ : ℕ} {l l₁ l₂ l₃ : List ℕ} → c ≡ 8 - from
-      → Wrote (stores ((slot_at new, slot (count_from 0 c)) ∷ (link_at new, link) ∷ [])) n l n₁ l₁
-      → Wrote (stores (laid new 0 (drop from es))) n₁ l₁ n₂ l₂ → Wrote (flush (line (slot_at new)) ∷ []) n₂ l₂ n₃ l₃
-      → Wrote (stores (new_node new link (drop from es)) ++ (flush (line (slot_at new)) ∷ [])) n l n₃ l₃
+  pub node_written : (new link from : ℕ) {c : ℕ} {l l₁ l₂ l₃ : EventList} → c ≡ 8 - from
+      → Wrote (stores ((slot_at new, slot (count_from 0 c)) ∷ (link_at new, link) ∷ [])) l l₁
+      → Wrote (stores (laid new 0 (drop from es))) l₁ l₂ → Wrote (flush (line (slot_at new)) ∷ []) l₂ l₃
+      → Wrote (stores (new_node new link (drop from es)) ++ (flush (line (slot_at new)) ∷ [])) l l₃
   node_written new link from e a b d = rw (length-drop from es, long, ← e) (wrote_append a (wrote_append b d))
 
 -- the entries of a new node stand in its first line, or in both
-module _ (new link : ℕ) (rs : List Record) where
-  pub one_line : length rs ≤ 3 → {n n₁ : ℕ} {l l₁ : List ℕ}
-      → Wrote (stores (new_node new link rs) ++ (flush (line (slot_at new)) ∷ [])) n l n₁ l₁
-      → Wrote (stored (new_node new link rs)) n l n₁ l₁
-  one_line few a =
+module _ (new link : ℕ) (rs : List Record) {l l₁ : EventList}
+    (a : Wrote (stores (new_node new link rs) ++ (flush (line (slot_at new)) ∷ [])) l l₁) where
+  pub one_line : length rs ≤ 3 → Wrote (stored (new_node new link rs)) l l₁
+  one_line few =
       let e : (1 + 2 * length rs) / 8 ≡ 0 = omega arith in
       rw (stored_node new link rs, e) a
 
-  pub two_lines : length rs ≡ 4 → {n n₁ n₂ : ℕ} {l l₁ l₂ : List ℕ}
-      → Wrote (stores (new_node new link rs) ++ (flush (line (slot_at new)) ∷ [])) n l n₁ l₁
-      → Wrote (flush (line (slot_at new) + 1) ∷ []) n₁ l₁ n₂ l₂ → Wrote (stored (new_node new link rs)) n l n₂ l₂
-  two_lines four a b =
+  pub two_lines : length rs ≡ 4 → {l₂ : EventList} → Wrote (flush (line (slot_at new) + 1) ∷ []) l₁ l₂
+      → Wrote (stored (new_node new link rs)) l l₂
+  two_lines four b =
       let e : (1 + 2 * length rs) / 8 ≡ 1 = omega arith in
       rw (stored_node new link rs, e) (rw append_assoc at (wrote_append a b))

@@ -9,7 +9,7 @@ use lib.Seq.{length-take-le}
 use borrow.Author.Tests.{eqb-true, eq-eqb, ne_eqb, lt-ltb, le-leb}
 use Rattle.words.specs.Event.{at}
 use Rattle.node.specs.Lists.{insert, all_below, covered}
-use Rattle.node.specs.Slot.{bytes, count, entries, slot}
+use Rattle.node.specs.Slot.{bytes, count, names, entries, slot, spot}
 use Rattle.node.specs.View.{Record, view, keys, rank, entry, slot_at, key_at, good, no_end}
 use Rattle.node.specs.inner.Looked.{Inside}
 use Rattle.node.proofs.Digits.{bytes_take}
@@ -20,11 +20,10 @@ use Rattle.node.proofs.Slots.{length_names}
 use Rattle.node.proofs.Spots.{spot_below}
 use Rattle.node.proofs.Views.{key_of, Good, good_parts, parts_good, view_names, view_keys, view_length}
 use Rattle.tree.specs.Kids.{leaf_least}
-use Rattle.tree.specs.Halves.{lower}
+use Rattle.tree.specs.Halves.{lower, eight}
 use Rattle.change.specs.Steps.{full, lower_slot}
 use Rattle.change.proofs.Counts.{length_eight}
-use Rattle.split.specs.declared.opening.Eight.{Eight}
-use Rattle.split.specs.inner.Splitting.{Met, Named, Opened, new_of, eight_of}
+use Rattle.split.specs.inner.Opened.{Met, Opened}
 
 -- words of 64 bits are below the end of the widest cover
 covered_all : (m : List ℕ) (k : ℕ) (ns : List ℕ) → ((i : ℕ) → at m i < no_end) → covered 0 no_end (map (key_of m k) ns) ≡ true
@@ -74,14 +73,14 @@ module _ {m : List ℕ} {k : ℕ} (t : Met m k) where
       omega (arith, below_length key (keys (view m k).records), length-map (view m k).records (λ (r : Record). r.0), view_length m k)
 
   -- a full node is opened by its slot word
-  pub opened_in : {w r key value : ℕ} {f : Eight} → w ≡ at m (slot_at k) → count w ≡ entries → r ≡ rank (view m k) key
-      → Named k w r key value f → Opened m f
-  opened_in e c q o = record {
-    met = rw o.node_is t;
-    full_is = rw o.node_is (met_full (rw (← e) c));
-    rank_is = rw (o.node_is, o.key_is) (o.rank_is ∙ q);
-    spot_is = rw (o.node_is, view_names m k, ← e) o.spot_is;
-    names_are = rw (o.node_is, o.rank_is, view_names m k, ← e) o.names_are;
+  pub opened_in : {w r ns e key : ℕ} → w ≡ at m (slot_at k) → count w ≡ entries → r ≡ rank (view m k) key
+      → e ≡ spot (take (lower - 1) (names w)) → bytes 8 ns ≡ insert r e (names w) → Opened m k r ns e key
+  opened_in e c q spot_is names_are = record {
+    met = t;
+    full_is = met_full (rw (← e) c);
+    rank_is = q;
+    spot_is = rw (view_names m k, ← e) spot_is;
+    names_are = rw (view_names m k, ← e) names_are;
   }
 
 -- something put in, and the places beside it
@@ -98,41 +97,37 @@ beside h (suc i) x e [] j d b ne l = absurd (omega arith)
 beside h (suc i) x e (n ∷ ns) zero d b ne l = refl
 beside h (suc i) x e (n ∷ ns) (suc j) d b ne l = beside h i x e ns j d (omega arith) (λ q. ne (ap suc q)) (omega arith)
 
-module _ {m : List ℕ} {f : Eight} (o : Opened m f) where
-  length_seven : length (view m f.node).named ≡ entries
-  length_seven = eqb-true (length (view m f.node).named) entries o.full_is
+module _ {m : List ℕ} {k r ns e : ℕ} (x : Record) (o : Opened m k r ns e x.0) where
+  length_seven : length (view m k).named ≡ entries
+  length_seven = eqb-true (length (view m k).named) entries o.full_is
 
-  pub opened_eight : length (eight_of m f) ≡ 8
-  opened_eight = length_eight m f.node (new_of f) o.full_is
+  pub opened_eight : length (eight (view m k) x) ≡ 8
+  opened_eight = length_eight m k x o.full_is
 
-  rank_low : f.rank ≤ length (view m f.node).records
-  rank_low = rw (o.rank_is, view_length m f.node) (rank_le o.met f.key)
+  rank_low : r ≤ length (view m k).records
+  rank_low = rw (o.rank_is, view_length m k) (rank_le o.met x.0)
 
   -- the new record at its rank, and the others by their names
-  pub at_rank : (i : ℕ) → i ≡ f.rank → new_of f ≡ get_or (eight_of m f) i (0, 0)
-  at_rank i e = rw (e, ← o.rank_is) (sym (getD_insert f.rank (new_of f) (view m f.node).records (0, 0) rank_low))
+  pub at_rank : (i : ℕ) → i ≡ r → x ≡ get_or (eight (view m k) x) i (0, 0)
+  at_rank i q = rw (q, ← o.rank_is) (sym (getD_insert r x (view m k).records (0, 0) rank_low))
 
-  pub at_name : (i : ℕ) → i < 8 → (i ≡ f.rank → ⊥) → entry m f.node (get_or (bytes 8 f.names) i 0) ≡ get_or (eight_of m f) i (0, 0)
+  pub at_name : (i : ℕ) → i < 8 → (i ≡ r → ⊥) → entry m k (get_or (bytes 8 ns) i 0) ≡ get_or (eight (view m k) x) i (0, 0)
   unfolding view
   at_name i h ne =
-      let low : f.rank ≤ length (view m f.node).named = omega (arith, rank_low, view_length m f.node, length_named m f.node) in
+      let low : r ≤ length (view m k).named = omega (arith, rank_low, view_length m k, length_named m k) in
       rw (o.names_are, ← o.rank_is)
-      (sym (beside (entry m f.node) f.rank (new_of f) f.spot (view m f.node).named i (0, 0) low ne
-      (omega (arith, length_seven))))
+      (sym (beside (entry m k) r x e (view m k).named i (0, 0) low ne (omega (arith, length_seven))))
 
-  pub spot_low : f.spot < entries
+  pub spot_low : e < entries
   spot_low = rw o.spot_is
-      (spot_below (take (lower - 1) (view m f.node).named)
-      (rw (length-take-le (lower - 1) (view m f.node).named (omega (arith, length_seven))) (omega arith)))
+      (spot_below (take (lower - 1) (view m k).named) (rw (length-take-le (lower - 1) (view m k).named (omega (arith, length_seven))) (omega arith)))
 
-  pub name_low : (i : ℕ) → i < 8 → get_or (bytes 8 f.names) i 0 < entries
+  pub name_low : (i : ℕ) → i < 8 → get_or (bytes 8 ns) i 0 < entries
   name_low i h =
-      let ns = (view m f.node).named in
-      let low : all_below entries (insert f.rank f.spot ns) ≡ true =
-      rw (below_insert entries f.rank f.spot ns, lt-ltb f.spot entries spot_low) (parts o.met).names_low in
-      rw o.names_are (below_at entries i (insert f.rank f.spot ns) low
-      (rw (length_insert f.rank f.spot ns) (omega (arith, length_seven))))
+      let low : all_below entries (insert r e (view m k).named) ≡ true =
+      rw (below_insert entries r e (view m k).named, lt-ltb e entries spot_low) (parts o.met).names_low in
+      rw o.names_are (below_at entries i (insert r e (view m k).named) low (rw (length_insert r e (view m k).named) (omega (arith, length_seven))))
 
   -- the slot word of the lower four
-  pub slot_lower : slot (bytes lower f.names) ≡ lower_slot (view m f.node) f.key
-  slot_lower = rw (bytes_take lower 8 f.names (omega arith), o.names_are, o.rank_is, o.spot_is)
+  pub slot_lower : slot (bytes lower ns) ≡ lower_slot (view m k) x.0
+  slot_lower = rw (bytes_take lower 8 ns (omega arith), o.names_are, o.rank_is, o.spot_is)

@@ -12,7 +12,7 @@ use Rattle.tree.specs.Path.{Way, leaf, parent, way, levels_above, way_to}
 use Rattle.tree.specs.Lists.{Each}
 use Rattle.tree.proofs.Path.{Passed, passed, way_to_counts, way_to_down}
 use Rattle.tree.proofs.Ways.{inside}
-use Rattle.split.specs.inner.Splitting.{Met}
+use Rattle.split.specs.inner.Opened.{Met}
 use Rattle.split.proofs.Eights.{met_good}
 
 module _ (m : List ℕ) (words : (i : ℕ) → at m i < no_end) (agree : form_agrees m ≡ true) (bounded : counts_agree m ≡ true) where

@@ -2,7 +2,9 @@
 #![tactic(auto)]
 
 mod building;
+mod halving;
 pub mod logging;
 mod opening;
+mod ranking;
 pub mod rising;
 pub mod splitting;

@@ -1,11 +1,12 @@
 -- Slips in a call or in its promise, each refuted at one input: there the promise forbids what the slip answers or leaves, or the slip
 -- leaves a choice.
 use Prim.Native.Nat.{ℕ, ◌+◌, ◌*◌, ◌<◌, ◌≤◌}
-use mathlib.Core.Path.{◌≡◌, refl, ap}
+use mathlib.Core.Path.{◌≡◌, refl, ◌∙◌, ap}
 use mathlib.Core.Logic.{◌≢◌}
 use mathlib.Core.List.{List, [], ◌∷◌, map}
 use native.Mathlib.Omega.{arith}
-use lib.ListN.{replicate}
+use lib.ListN.{replicate, set}
+use lib.Seq.{get_or-set_same, get_or-set_other}
 use Rattle.std.specs.Prelude.{Result, Ok, Err}
 use Rattle.words.specs.Lists.{count_from}
 use Rattle.words.specs.Pool.{pairs_at, pairs_most, nodes_at}
@@ -13,6 +14,7 @@ use Rattle.words.specs.declared.event.Event.{Event}
 use Rattle.words.specs.declared.event.Event.TheVariants.{Store as store, Flush as flush}
 use Rattle.words.specs.Event.{at, first_word, second_word, event_at}
 use Rattle.words.specs.Written.{written, Wrote}
+use Rattle.words.specs.declared.write.EventList.{EventList}
 use Rattle.words.specs.Refusals.{number}
 use Rattle.words.specs.declared.refusal.Refusal.{Refusal}
 use Rattle.words.specs.declared.refusal.Refusal.TheVariants.{ShortList, NoPool, Unfinished, Damaged, NoRoom, BadLog}
@@ -42,15 +44,22 @@ pub first_event : ¬ CarryAllPromise (0 ∷ []) (one (store 0 5)) 1 (0 ∷ [])
 unfolding after_all
 first_event p = let h : at (0 ∷ []) 0 ≡ 5 = ap (λ (m : List ℕ). at m 0) p in omega arith
 
--- a store is written as a flush
-pub store_kind : ¬ Wrote (store 0 5 ∷ []) 0 (0 ∷ 0 ∷ []) 1 (first_word (flush 0) ∷ 5 ∷ [])
+-- the first event of a list, a store, is read in its first word
+first_store : {a b : EventList} → a.events ≡ 0 → Wrote (store 0 5 ∷ []) a b → at b.words.now 0 ≡ first_word (store 0 5)
 unfolding written
-store_kind p = let h : first_word (flush 0) ≡ first_word (store 0 5) = ap (λ (m : List ℕ). at m 0) p.list in omega arith
+first_store {a} none p =
+    let w = a.words.now in
+    let e = first_word (store 0 5) in
+    ap (λ (m : List ℕ). at m 0) p.list
+    ∙ rw none (get_or-set_other (set w 0 e) 1 0 5 0 (omega arith) ∙ get_or-set_same w 0 e 0 (omega (arith, a.long)))
+
+-- a store is written as a flush
+pub store_kind : {a b : EventList} → a.events ≡ 0 → at b.words.now 0 ≡ first_word (flush 0) → ¬ Wrote (store 0 5 ∷ []) a b
+store_kind none slip p = let h = first_store none p in omega arith
 
 -- the value is written over the first word
-pub write_place : ¬ Wrote (store 0 5 ∷ []) 0 (0 ∷ 0 ∷ []) 1 (5 ∷ 0 ∷ [])
-unfolding written
-write_place p = let h : 5 ≡ first_word (store 0 5) = ap (λ (m : List ℕ). at m 0) p.list in omega arith
+pub write_place : {a b : EventList} → a.events ≡ 0 → at b.words.now 0 ≡ 5 → ¬ Wrote (store 0 5 ∷ []) a b
+write_place none slip p = let h = first_store none p in omega arith
 
 -- 31 pairs fit between commit word and nodes, and 32 do not
 pub log_holds : (pairs_at + 2 * pairs_most ≤ nodes_at) × (nodes_at < pairs_at + 2 * (pairs_most + 1))

@@ -5,6 +5,7 @@ use mathlib.Core.List.{List, [], ◌∷◌, ◌++◌}
 use native.Mathlib.Nat.{add-zero}
 use native.Mathlib.Omega.{arith}
 use lib.ListN.{length, length-append, length-set}
+use Rattle.words.specs.declared.write.EventList.{EventList}
 use Rattle.words.specs.declared.event.Event.{Event}
 use Rattle.words.specs.Written.{written_one, written, Wrote}
 
@@ -20,14 +21,21 @@ length_written [] n l = refl
 length_written (e ∷ es) n l = length_written es (n + 1) (written_one e n l) ∙ simp length-set
 
 -- one event, from its two words
-pub wrote_one : (e : Event) {n r : ℕ} {l l' : List ℕ} → r ≡ n + 1 → l' ≡ written_one e n l → Wrote (e ∷ []) n l r l'
+pub wrote_one : (e : Event) {a b : EventList} → b.words.ghost_name ≡ a.words.ghost_name → b.events ≡ a.events + 1
+    → b.words.now ≡ written_one e a.events a.words.now → Wrote (e ∷ []) a b
 unfolding written
-wrote_one e next list = record { next = next; list = list }
+wrote_one e same next list = record { same = same; next = next; list = list }
 
 -- two calls, one after the other
-pub wrote_append : {es fs : List Event} {n m r : ℕ} {l k j : List ℕ} → Wrote es n l m k → Wrote fs m k r j → Wrote (es ++ fs) n l r j
-wrote_append {es} {fs} {n} {l = l} a b =
+pub wrote_append : {es fs : List Event} {a b c : EventList} → Wrote es a b → Wrote fs b c → Wrote (es ++ fs) a c
+wrote_append {es} {fs} {a} v w =
     record {
-      next = b.next ∙ rw (a.next, length-append es fs) (omega arith);
-      list = b.list ∙ rw (a.list, a.next, written_append es fs n l) refl;
+      same = w.same ∙ v.same;
+      next = w.next ∙ rw (v.next, length-append es fs) (omega arith);
+      list = w.list ∙ rw (v.list, v.next, written_append es fs a.events a.words.now) refl;
     }
+
+-- all that was written into a list, from its first event on
+pub wrote_all : {es : List Event} {a b : EventList} {l l' : List ℕ} → Wrote es a b → a.words.now ≡ l → a.events ≡ 0 → l' ≡ b.words.now
+    → l' ≡ written es 0 l
+wrote_all w l n e = e ∙ w.list ∙ rw (l, n) refl

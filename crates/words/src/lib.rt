@@ -10,4 +10,4 @@ mod write;
 pub use carry::{carry_all, carry_out};
 pub use limits::Pool;
 pub use refusal::Refusal;
-pub use write::{write_fence, write_flush, write_once, write_store};
+pub use write::EventList;

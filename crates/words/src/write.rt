@@ -1,51 +1,75 @@
-// Writing events into a lent list: each call is handed the number of events before it and answers their number after it.
-ghost use Rattle.std.specs.Prelude.{◌+◌, ◌≤◌, ◌<◌, [], ◌∷◌, length};
-ghost use Rattle.words.specs.Pool.{events_most, list_words};
-ghost use Rattle.words.specs.declared.event.Event.TheVariants.{Store as store, Flush as flush, Fence as fence};
-ghost use Rattle.words.specs.Event.{number_of, top_byte};
-ghost use Rattle.words.specs.Blocks.{once};
-ghost use Rattle.words.specs.Written.{Wrote};
+// Writing events into a lent list, one after the other.
+ghost use Rattle.std.specs.Prelude.{◌≤◌, length};
+ghost use Rattle.words.specs.Pool.{list_words};
 
 use crate::event::Event;
 use crate::limits::Pool;
 
-// The event that comes after n others.
-fn write_event(list: &mut [u64], n: u64, event: Event) -> u64
-    requires { (n < events_most) × (list_words ≤ length list.old) × (number_of event < top_byte) }
-    ensures { Wrote (event ∷ []) n list.old result list.new }
-{
-    let at = (n as usize) * 2;
-    (list[at], list[at + 1]) = event.words();
-    n + 1
+// A lent list with room for every plan, and how many events were written into it.
+#[derive(Drop)]
+pub struct EventList<'a> {
+    pub words: &'a mut [u64],
+    pub events: u64,
+    ghost long: { list_words ≤ length words.now },
 }
 
-pub fn write_store(list: &mut [u64], n: u64, word: u64, value: u64) -> u64
-    requires { (n < events_most) × (list_words ≤ length list.old) × (word < top_byte) }
-    ensures { Wrote (store word value ∷ []) n list.old result list.new }
-{
-    write_event(list, n, Event::Store(word, value))
-}
+impl<'a> EventList<'a> {
+    ghost use Rattle.std.specs.Prelude.{◌+◌, ◌<◌, ◌≡◌, [], ◌∷◌};
+    ghost use Rattle.words.specs.Pool.{events_most};
+    ghost use Rattle.words.specs.declared.event.Event.TheVariants.{Store as store, Flush as flush, Fence as fence};
+    ghost use Rattle.words.specs.Event.{number_of, top_byte};
+    ghost use Rattle.words.specs.Blocks.{once};
+    ghost use Rattle.words.specs.Written.{Wrote};
 
-pub fn write_flush(list: &mut [u64], n: u64, line: u64) -> u64
-    requires { (n < events_most) × (list_words ≤ length list.old) × (line < top_byte) }
-    ensures { Wrote (flush line ∷ []) n list.old result list.new }
-{
-    write_event(list, n, Event::Flush(line))
-}
+    pub fn new(list: &'a mut [u64]) -> EventList<'a>
+        requires { list_words ≤ length list.old }
+        ensures same { result.words.ghost_name ≡ list.entry.ghost_name }
+        ensures list { result.words.now ≡ list.old }
+        ensures events { result.events ≡ 0 }
+    {
+        EventList {
+            words: list,
+            events: 0,
+        }
+    }
 
-pub fn write_fence(list: &mut [u64], n: u64) -> u64
-    requires { (n < events_most) × (list_words ≤ length list.old) }
-    ensures { Wrote (fence ∷ []) n list.old result list.new }
-{
-    write_event(list, n, Event::Fence)
-}
+    fn write(&mut self, event: Event)
+        requires { (self.old.events < events_most) × (number_of event < top_byte) }
+        ensures { Wrote (event ∷ []) self.old self.new }
+    {
+        let at = (self.events as usize) * 2;
+        (self.words[at], self.words[at + 1]) = event.words();
+        self.events += 1;
+    }
 
-// One word stored, its line flushed, a fence.
-pub fn write_once(list: &mut [u64], n: u64, word: u64, value: u64) -> u64
-    requires { (n + 3 ≤ events_most) × (list_words ≤ length list.old) × (word < top_byte) }
-    ensures { Wrote (once word value) n list.old result list.new }
-{
-    let stored = write_store(list, n, word, value);
-    let flushed = write_flush(list, stored, Pool::line(word));
-    write_fence(list, flushed)
+    pub fn store(&mut self, word: u64, value: u64)
+        requires { (self.old.events < events_most) × (word < top_byte) }
+        ensures { Wrote (store word value ∷ []) self.old self.new }
+    {
+        self.write(Event::Store(word, value));
+    }
+
+    pub fn flush(&mut self, line: u64)
+        requires { (self.old.events < events_most) × (line < top_byte) }
+        ensures { Wrote (flush line ∷ []) self.old self.new }
+    {
+        self.write(Event::Flush(line));
+    }
+
+    pub fn fence(&mut self)
+        requires { self.old.events < events_most }
+        ensures { Wrote (fence ∷ []) self.old self.new }
+    {
+        self.write(Event::Fence);
+    }
+
+    // One word stored, its line flushed, a fence.
+    pub fn once(&mut self, word: u64, value: u64)
+        requires { (self.old.events + 3 ≤ events_most) × (word < top_byte) }
+        ensures { Wrote (once word value) self.old self.new }
+    {
+        self.store(word, value);
+        self.flush(Pool::line(word));
+        self.fence();
+    }
 }

@@ -1,149 +1,101 @@
--- What the planning of a split hands on from call to call.
-use Rattle.std.specs.Prelude.{ℕ, ◌+◌, ◌-◌, ◌*◌, ◌≤◌, ◌<◌, ◌≡◌, List, [], ◌∷◌, ◌++◌, true, length, take, drop, get_or, ltb, if◌then◌else◌}
+-- What the planning of a split hands on from call to call. The lent list is l before a call and l' after it, the pairs of the log g and g'.
+use Rattle.std.specs.Prelude.{ℕ, ◌+◌, ◌-◌, ◌*◌, ◌≤◌, ◌≡◌, List, [], ◌∷◌, ◌++◌, Option, Some, None, true, length, get_or}
 use Rattle.words.specs.Pool as p
-use Rattle.words.specs.Event.{at, top_byte}
+use Rattle.words.specs.Event.{at}
 use Rattle.words.specs.Blocks.{Pair, stored}
 use Rattle.words.specs.Written.{Wrote}
-use Rattle.node.specs.Lists.{insert}
-use Rattle.node.specs.Slot.{bytes, names, spot}
+use Rattle.words.specs.declared.write.EventList.{EventList}
 use Rattle.node.specs.View as views
-use Rattle.node.specs.View.{Record, view, good, no_end, slot_at, link_at}
-use Rattle.node.specs.inner.Looked.{Inside}
+use Rattle.node.specs.View.{Record, view, slot_at, link_at}
 use Rattle.tree.specs.Header.{capacity_of, used_of, root_of, height_of, form_agrees, counts_agree}
-use Rattle.tree.specs.Kids.{leaf_least}
+use Rattle.tree.specs.declared.descend.Seat.{Seat}
 use Rattle.tree.specs.Lists.{Each}
-use Rattle.tree.specs.Halves.{eight, lower, upper_four, fifth, upper_three}
-use Rattle.change.specs.Steps.{full, entry_pairs, taken_slot, parent_spot, new_node, staying_spot, staying_pairs}
+use Rattle.tree.specs.Halves.{eight, upper_four, fifth, upper_three}
+use Rattle.change.specs.Steps.{full, entry_pairs, taken_slot, parent_spot, new_node, staying_pairs}
 use Rattle.change.specs.Plan.{Plan, new_nodes}
-use Rattle.change.specs.Recover.{log_pairs}
 use Rattle.change.specs.Put.{needed}
 use Rattle.split.specs.declared.opening.Eight.{Eight}
-use Rattle.split.specs.declared.rising.Up.{Up}
-use Rattle.split.specs.declared.rising.Tally.{Tally}
-
--- a node that the way down met: it lies inside the memory and is sound, whatever it covers
-pub record Met (m : List ℕ) (k : ℕ) : Type 0 where
-  pub inside : Inside m k
-  pub good_is : good leaf_least 0 no_end (view m k) ≡ true
-
--- the new record
-abbrev pub new_of : Eight → Record
-new_of f = (f.key, f.value)
-
--- node k, whose slot word is w, with a new record of a rank: the spot that it takes if it stays, and the eight names with that spot
-pub record Named (k w rank key value : ℕ) (f : Eight) : Type 0 where
-  pub node_is : f.node ≡ k
-  pub key_is : f.key ≡ key
-  pub value_is : f.value ≡ value
-  pub rank_is : f.rank ≡ rank
-  pub spot_is : f.spot ≡ spot (take (lower - 1) (names w))
-  pub names_are : bytes 8 f.names ≡ insert rank f.spot (names w)
-
--- so for a full node of m, and with the record's own rank
-pub record Opened (m : List ℕ) (f : Eight) : Type 0 where
-  pub met : Met m f.node
-  pub full_is : full (view m f.node) ≡ true
-  pub rank_is : f.rank ≡ views.rank (view m f.node) f.key
-  pub spot_is : f.spot ≡ staying_spot (view m f.node)
-  pub names_are : bytes 8 f.names ≡ insert f.rank f.spot (view m f.node).named
+use Rattle.split.specs.inner.Opened.{Met}
+use Rattle.split.specs.inner.Pairs.{Noted}
 
 -- "the 8 records"
-abbrev pub eight_of : List ℕ → Eight → List Record
-eight_of m f = eight (view m f.node) (new_of f)
+abbrev pub eight_of : Eight → List Record
+eight_of f = eight (view f.pool.now f.node) f.new
 
--- "key and value of its new record (if that stays)"
-abbrev pub if_stays : Eight → List Pair
-if_stays f = if ltb f.rank lower then entry_pairs f.node f.spot (new_of f) else []
+-- "word 1 (leaf only)": the new leaf that leaf k is linked to
+abbrev pub word_1 : ℕ → Option ℕ → List Pair
+word_1 k None = []
+word_1 k (Some new) = (link_at k, new) ∷ []
 
--- the address of each pair fits an event
-abbrev pub Near : List Pair → Type 0
-Near ps = Each (λ (q : Pair). q.0 < top_byte) ps
-
--- the pairs ps were noted after the c that the array g held: it is g' then, and holds r, if there is room for so many
-pub record Noted (ps : List Pair) (c : ℕ) (g : List ℕ) (r : ℕ) (g' : List ℕ) : Type 0 where
-  pub next : r ≡ c + length ps
-  pub size : length g' ≡ length g
-  pub pairs : 2 * r ≤ length g → log_pairs r 0 g' ≡ log_pairs c 0 g ++ ps
-  pub near : Near ps
-
--- the record that goes up
-abbrev pub up_of : Up → Record
-up_of u = (u.key, u.child)
+-- the pairs of full node k that splits for a new record
+abbrev pub staying : List ℕ → ℕ → Record → Option ℕ → List Pair
+staying m k r next = staying_pairs k (view m k) r (word_1 k next)
 
 -- there is room for the events and the pairs of one more level, and for its new node
-pub record Room (new : ℕ) (u : Up) (size : ℕ) : Type 0 where
+pub record Room (new : ℕ) (l : EventList) (g : List Pair) : Type 0 where
   pub number : new ≤ p.capacity_most
-  pub events : u.events + 12 ≤ p.events_most
-  pub pairs : u.pairs + 4 ≤ p.pairs_most
-  pub words : p.list_words ≤ size
+  pub events : l.events + 12 ≤ p.events_most
+  pub pairs : length g + 4 ≤ p.pairs_most
 
 -- one level was split: its new node is written, its pairs are noted, and a key goes up with the new node's number
-pub record Level (node pairs : List Pair) (key new : ℕ) (u : Up) (l g : List ℕ) (r : Up) (l' g' : List ℕ) : Type 0 where
-  pub wrote : Wrote (stored node) u.events l r.events l'
-  pub noted : Noted pairs u.pairs g r.pairs g'
-  pub key_is : r.key ≡ key
-  pub child_is : r.child ≡ new
+pub record Level (node pairs : List Pair) (key new : ℕ) (l : EventList) (g : List Pair) (l' : EventList) (g' : List Pair) (r : Record)
+    : Type 0 where
+  pub wrote : Wrote (stored node) l l'
+  pub noted : Noted pairs g g'
+  pub goes_up : r ≡ (key, new)
 
 -- the leaf: "the lower 4 stay and the upper 4 go to a new leaf, whose smallest key goes up"
-abbrev pub LeafLevel : List ℕ → ℕ → ℕ → Up → List ℕ → List ℕ → Up → List ℕ → List ℕ → Type 0
-LeafLevel m k new u =
+abbrev pub LeafLevel : List ℕ → ℕ → Record → ℕ → EventList → List Pair → EventList → List Pair → Record → Type 0
+LeafLevel m k r new =
     let v = view m k in
-    Level (new_node new v.link (upper_four v (up_of u))) (staying_pairs k v (up_of u) ((link_at k, new) ∷ []))
-    (fifth v (up_of u)).0 new u
+    Level (new_node new v.link (upper_four v r)) (staying m k r (Some new)) (fifth v r).0 new
 
 -- an inner node: "the fifth's key goes up and its child becomes the new node's leftmost, the upper 3 go over"
-abbrev pub InnerLevel : List ℕ → ℕ → ℕ → Up → List ℕ → List ℕ → Up → List ℕ → List ℕ → Type 0
-InnerLevel m k new u =
+abbrev pub InnerLevel : List ℕ → ℕ → Record → ℕ → EventList → List Pair → EventList → List Pair → Record → Type 0
+InnerLevel m k r new =
     let v = view m k in
-    Level (new_node new (fifth v (up_of u)).1 (upper_three v (up_of u))) (staying_pairs k v (up_of u) [])
-    (fifth v (up_of u)).0 new u
+    Level (new_node new (fifth v r).1 (upper_three v r)) (staying m k r None) (fifth v r).0 new
 
 -- the pairs of the node with room: "key, child (lowest unused entry), slot word of the parent that took the last one; then used"
-abbrev pub parent_pairs : List ℕ → ℕ → ℕ → Up → List Pair
-parent_pairs m k used u =
+abbrev pub parent_pairs : List ℕ → ℕ → ℕ → Record → List Pair
+parent_pairs m k used up =
     let v = view m k in
-    entry_pairs k (parent_spot v) (up_of u) ++ ((slot_at k, taken_slot v u.key (parent_spot v)) ∷ (p.used_at, used) ∷ [])
+    entry_pairs k (parent_spot v) up ++ ((slot_at k, taken_slot v up.0 (parent_spot v)) ∷ (p.used_at, used) ∷ [])
 
 -- "A full root gets a new root above it, leftmost child the old root"; the pairs "used; then, for a new root, root and height"
-abbrev pub new_root : List ℕ → ℕ → Up → Plan
-new_root m new u = record {
-  nodes = new_node new (root_of m) (up_of u ∷ []) ∷ [];
+abbrev pub new_root : List ℕ → ℕ → Record → Plan
+new_root m new up = record {
+  nodes = new_node new (root_of m) (up ∷ []) ∷ [];
   pairs = (p.used_at, new) ∷ (p.root_at, new) ∷ (p.height_at, height_of m + 1) ∷ [];
 }
 
 -- a plan's new nodes are written, and its pairs noted
-pub record Done (q : Plan) (u : Up) (l g : List ℕ) (r : Tally) (l' g' : List ℕ) : Type 0 where
-  pub wrote : Wrote (new_nodes q.nodes) u.events l r.events l'
-  pub noted : Noted q.pairs u.pairs g r.pairs g'
+pub record Done (q : Plan) (l : EventList) (g : List Pair) (l' : EventList) (g' : List Pair) : Type 0 where
+  pub wrote : Wrote (new_nodes q.nodes) l l'
+  pub noted : Noted q.pairs g g'
 
--- the last `left` of a path's levels, nearest to the leaf first
-abbrev pub levels : List ℕ → ℕ → ℕ → List ℕ
-levels path height left = drop (height - left) (take height path)
-
--- what a call on the levels above is handed: all below them are split, each by at most 9 events and 3 pairs, the leaf by 12 and 4
-pub record Ready (m path : List ℕ) (height left : ℕ) (u : Up) (size : ℕ) : Type 0 where
+-- what a call on the levels above is handed, i levels below them being split, each by at most 9 events and 3 pairs, the leaf by 12 and 4
+pub record Ready (m levels : List ℕ) (i : ℕ) (l : EventList) (g : List Pair) : Type 0 where
   pub form : form_agrees m ≡ true
   pub counts : counts_agree m ≡ true
-  pub words : p.list_words ≤ size
-  pub high : height ≤ p.height_most
-  pub some : left ≤ height
-  pub nodes : Each (Met m) (levels path height left)
-  pub need : needed m (levels path height left) + (height - left) ≤ p.height_most
-  pub free : used_of m + (needed m (levels path height left) + (height - left)) ≤ capacity_of m
-  pub events : u.events ≤ 3 + 9 * (height - left)
-  pub pairs : u.pairs ≤ 1 + 3 * (height - left)
+  pub high : length levels + i ≤ p.height_most
+  pub nodes : Each (Met m) levels
+  pub need : needed m levels + i ≤ p.height_most
+  pub free : used_of m + (needed m levels + i) ≤ capacity_of m
+  pub events : l.events ≤ 3 + 9 * i
+  pub pairs : length g ≤ 1 + 3 * i
 
--- what a put into a full leaf is handed: the way down met the path's nodes, the leaf first, whose slot word is w, and the tests of
--- refusals 5 and 4 passed
-pub record ToSplit (m path : List ℕ) (height w rank key size : ℕ) : Type 0 where
+-- what a put into the full leaf of a seat is handed: the way down met the path's nodes, the leaf first, and the tests of refusals 5 and
+-- 4 passed
+pub record ToSplit (m path : List ℕ) (s : Seat) (key : ℕ) : Type 0 where
   pub form : form_agrees m ≡ true
   pub counts : counts_agree m ≡ true
-  pub words : p.list_words ≤ size
-  pub high : height ≤ p.height_most
-  pub some : 1 ≤ height
-  pub nodes : Each (Met m) (take height path)
-  pub slot_is : w ≡ at m (slot_at (get_or path 0 0))
-  pub full_is : full (view m (get_or path 0 0)) ≡ true
-  pub rank_is : rank ≡ views.rank (view m (get_or path 0 0)) key
-  pub need : needed m (take height path) ≤ p.height_most
-  pub free : needed m (take height path) ≤ capacity_of m - used_of m
+  pub high : length path ≤ p.height_most
+  pub some : 1 ≤ length path
+  pub nodes : Each (Met m) path
+  pub leaf_is : s.leaf ≡ get_or path 0 0
+  pub slot_is : s.slot ≡ at m (slot_at s.leaf)
+  pub full_is : full (view m s.leaf) ≡ true
+  pub rank_is : s.rank ≡ views.rank (view m s.leaf) key
+  pub need : needed m path ≤ p.height_most
+  pub free : needed m path ≤ capacity_of m - used_of m

@@ -1,4 +1,4 @@
--- `pool::new_root` meets its contract: three calls, one after the other.
+-- Three calls, one after the other.
 use Rattle.words.proofs.Written.{wrote_append}
 use Rattle.change.proofs.Lines.{stored_node}
 use Rattle.split.proofs.building.new_root.Goals as goal
@@ -6,5 +6,5 @@ use Rattle.split.proofs.building.new_root.Goals as goal
 pub returns : goal.returns
 returns c =
     rw (stored_node _ _ _)
-    (wrote_append c.write_head-headed.ensures (wrote_append c.write_entry-filled.ensures
-    (rw (c.line.ensures, c.node_at.ensures) at c.write_flush.ensures)))
+    (wrote_append c.write_head.ensures (wrote_append c.write_entry.ensures
+    (rw (c.line.ensures, c.node_at.ensures) at c.flush.ensures)))

@@ -1,8 +1,7 @@
--- `pool::write_entry` meets its contract: two stores.
+-- Two stores.
 use Rattle.words.proofs.Written.{wrote_append}
 use Rattle.split.proofs.building.write_entry.Goals as goal
 
 pub returns : goal.returns
 returns c =
-    wrote_append (rw c.key_at.ensures at c.write_store-keyed.ensures)
-    (rw c.value_at.ensures at c.write_store.ensures)
+    wrote_append (rw c.key_at.ensures at c.store.ensures) (rw c.value_at.ensures at c.store-2.ensures)

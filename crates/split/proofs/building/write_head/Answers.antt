@@ -1,8 +1,7 @@
--- `pool::write_head` meets its contract: two stores.
+-- Two stores.
 use Rattle.words.proofs.Written.{wrote_append}
 use Rattle.split.proofs.building.write_head.Goals as goal
 
 pub returns : goal.returns
 returns c =
-    wrote_append (rw (c.node_at.ensures, c.rising_names.ensures) at c.write_store-named.ensures)
-    (rw c.link_at.ensures at c.write_store.ensures)
+    wrote_append (rw (c.node_at.ensures, c.rising_names.ensures) at c.store.ensures) (rw c.link_at.ensures at c.store-2.ensures)

@@ -1,9 +1,7 @@
--- `pool::write_upper` meets its contract: a loop over the places, two stores a turn.
+-- A loop over the places, two stores a turn.
 use Prim.Native.Nat.{◌-◌}
-use mathlib.Core.Path.{refl}
 use native.Mathlib.Nat.{sub_self}
 use native.Mathlib.Omega.{arith}
-use borrow.Author.Rules.{rules}
 use Rattle.split.specs.inner.Splitting.{eight_of}
 use Rattle.split.proofs.Loops.{left_all, left_on, left_none}
 use Rattle.split.proofs.Eights.{opened_eight}
@@ -11,21 +9,20 @@ use Rattle.split.proofs.Builds.{upper_turn, upper_end}
 use Rattle.split.proofs.building.write_upper.Goals as goal
 
 pub loop-i-init : goal.loop-i-init
-loop-i-init c = (search rules, search rules, omega arith, refl, rw sub_self left_all)
+loop-i-init c = (omega arith, rw sub_self left_all)
 
 pub loop-i-preserved : goal.loop-i-preserved
 loop-i-preserved c =
     let a = c.args in
-    let l = c.loop-i in
-    let w = c.write_entry-written.ensures in
-    let long = opened_eight c.requires.opened.0 in
-    let turn = upper_turn (eight_of a.pool.now a.eight) long a.new a.from l.i (omega arith) (omega arith)
-    c.record_of-entry.ensures in
-    (omega arith, omega arith, omega (arith, w.next), omega arith, left_on (rw turn at l.invariant.4) w)
+    let f = a.eight.now in
+    let i = c.loop-i.i in
+    let w = c.write_entry.ensures in
+    let turn = upper_turn (eight_of f) (opened_eight f.new f.opened) a.new a.from i (omega arith) (omega arith) c.record.ensures in
+    (omega (arith, w.next), left_on (rw turn at c.loop-i.invariant.1) w)
 
 pub returns : goal.returns
 returns c =
     let a = c.args in
-    let l = c.loop-i in
-    let long = opened_eight c.requires.opened.0 in
-    left_none (rw (upper_end (eight_of a.pool.now a.eight) long a.new (l.i - a.from) l.i (omega arith)) at l.invariant.4)
+    let f = a.eight.now in
+    let i = c.loop-i.i in
+    left_none (rw (upper_end (eight_of f) (opened_eight f.new f.opened) a.new (i - a.from) i (omega arith)) at c.loop-i.invariant.1)

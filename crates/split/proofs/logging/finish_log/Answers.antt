@@ -1,26 +1,20 @@
--- `pool::finish_log` meets its contract: three calls, one after the other.
+-- Three calls, one after the other.
 use native.Mathlib.Omega.{arith}
 use Rattle.words.proofs.Blocks.{length_replay}
-use Rattle.change.specs.Recover.{log_pairs}
-use Rattle.change.proofs.Counts.{length_log_pairs}
+use Rattle.split.specs.inner.Pairs.{pairs_of}
+use Rattle.split.proofs.Notes.{length_pairs}
 use Rattle.split.proofs.Logs.{finished}
 use Rattle.split.proofs.logging.finish_log.Goals as goal
 
-pub write_fence-fenced-requires : goal.write_fence-fenced-requires
-write_fence-fenced-requires c =
-    let a = c.args in
-    let n = c.replay_pairs-replayed.ensures.next in
-    let ps = log_pairs a.c a.first a.words.now in
-    (omega (arith, n, length_replay ps, length_log_pairs a.c a.first a.words.now), omega arith)
+pub fence-requires : goal.fence-requires
+fence-requires c =
+    let qs = c.args.pairs.now in
+    omega (arith, c.replay_pairs.ensures.next, length_replay (pairs_of qs), length_pairs qs)
 
-pub write_once-requires : goal.write_once-requires
-write_once-requires c =
-    let a = c.args in
-    let n = c.replay_pairs-replayed.ensures.next in
-    let f = c.write_fence-fenced.ensures.next in
-    let ps = log_pairs a.c a.first a.words.now in
-    (omega (arith, n, f, length_replay ps, length_log_pairs a.c a.first a.words.now), omega arith, omega arith)
+pub once-requires : goal.once-requires
+once-requires c =
+    let qs = c.args.pairs.now in
+    (omega (arith, c.replay_pairs.ensures.next, c.fence.ensures.next, length_replay (pairs_of qs), length_pairs qs), omega arith)
 
 pub returns : goal.returns
-returns c =
-    finished _ c.replay_pairs-replayed.ensures c.write_fence-fenced.ensures c.write_once.ensures
+returns c = finished _ c.replay_pairs.ensures c.fence.ensures c.once.ensures

@@ -1,17 +1,12 @@
--- `pool::risen` meets its contract: the levels left fall.
-use Prim.Native.Nat.{◌-◌}
-use Rattle.change.specs.Steps.{full}
-use Rattle.node.specs.View.{view, slot_at}
-use Rattle.split.proofs.Eights.{met_count, met_full, met_room}
-use Rattle.split.proofs.Levels.{levels_none, rise_top}
-use Rattle.split.proofs.Splits.{ready_counts, ready_top, ready_met, ready_pairs, ready_room, ready_full, ready_on, ready_split}
-use Rattle.split.specs.inner.Splitting.{Met}
-use Rattle.words.specs.Event.{at}
-use borrow.Author.Rules.{rules}
-use lib.ListN.{length, get_or}
-use mathlib.Core.Bool.{true}
-use mathlib.Core.Path.{◌≡◌, ◌∙◌, ap, sym}
+-- The levels that are left.
+use mathlib.Core.Path.{◌∙◌, ap, sym}
 use native.Mathlib.Omega.{arith}
+use borrow.Author.Rules.{rules}
+use Rattle.words.specs.Event.{at}
+use Rattle.split.proofs.Eights.{met_count, met_full, met_room}
+use Rattle.split.proofs.Levels.{rise_full, rise_room, rise_top}
+use Rattle.split.proofs.Splits.{no_levels, some_levels, first_of, rest_of}
+use Rattle.split.proofs.Splits.{ready_counts, ready_top, ready_first, ready_pairs, ready_full, ready_on}
 use Rattle.split.proofs.rising.+risen.Goals as goal
 
 pub bounds-pool : goal.bounds-pool
@@ -25,97 +20,46 @@ overflow_add-new-2 t c = omega (arith, (ready_counts c.requires).1)
 
 pub crowned-requires : goal.crowned-requires
 crowned-requires t c =
-    let r = c.requires in
-    let n = ready_counts r in
-    (n.0, n.2, ready_top r c.if-left-eq0.true)
+    let n = ready_counts c.requires in
+    (n.0, n.2, ready_top (rw (no_levels c.args.levels.now c.in-empty.len_below) at c.requires))
 
-pub returns-then-left-eq0 : goal.returns-then-left-eq0
-returns-then-left-eq0 t c =
-    let d = rise_top c.args.pool.now (c.args.height - c.args.left) c.crowned.ensures in
-    rw (levels_none c.args.path c.args.height c.args.left c.if-left-eq0.true) d
-
-pub node_at-at-requires : goal.node_at-at-requires
-node_at-at-requires t c =
-    let path_long : length c.args.path ≡ 8 = omega arith in
-    let met : let a = c.args in Met a.pool.now (get_or a.path (a.height - a.left) 0)
-    = ready_met c.requires path_long c.if-left-eq0.false in
-    met.inside.most
-
-pub offset_bounds-pool-at : goal.offset_bounds-pool-at
-offset_bounds-pool-at t c =
-    let path_long : length c.args.path ≡ 8 = omega arith in
-    let met : let a = c.args in Met a.pool.now (get_or a.path (a.height - a.left) 0)
-    = ready_met c.requires path_long c.if-left-eq0.false in
-    omega (arith, c.node_at-at.ensures, met.inside.most)
-
-pub bounds-pool-at : goal.bounds-pool-at
-bounds-pool-at t c =
-    let path_long : length c.args.path ≡ 8 = omega arith in
-    let met : let a = c.args in Met a.pool.now (get_or a.path (a.height - a.left) 0)
-    = ready_met c.requires path_long c.if-left-eq0.false in
-    omega (arith, c.node_at-at.ensures, met.inside.within)
+pub returns-in-empty : goal.returns-in-empty
+returns-in-empty t c =
+    let a = c.args in
+    rw (no_levels a.levels.now c.in-empty.len_below) (rise_top a.pool.now a.split a.up c.crowned.ensures)
 
 pub split_inner-next-requires : goal.split_inner-next-requires
 split_inner-next-requires t c =
-    let path_long : length c.args.path ≡ 8 = omega arith in
-    let met : let a = c.args in Met a.pool.now (get_or a.path (a.height - a.left) 0)
-    = ready_met c.requires path_long c.if-left-eq0.false in
-    let slot_read : let a = c.args in at a.pool.now c.node_at-at.result
-    ≡ at a.pool.now (slot_at (get_or a.path (a.height - a.left) 0)) = ap (at c.args.pool.now) c.node_at-at.ensures in
-    let is_full : let a = c.args in full (view a.pool.now (get_or a.path (a.height - a.left) 0)) ≡ true = met_full met
-    (rw slot_read at (sym c.count.ensures ∙ c.if-count-eq-ENTRIES.true)) in
-    let f = is_full in (
-      met,
-      slot_read,
-      sym c.count.ensures ∙ c.if-count-eq-ENTRIES.true,
-      ready_full c.requires path_long c.if-left-eq0.false f,
-    )
+    let rd = ready_first c.requires c.in-len1-up.len_at_least in
+    ready_full rd (met_full rd.nodes.0 (rw c.node_at.ensures at (sym c.count.ensures ∙ c.if-count-eq-ENTRIES.true)))
 
 pub risen-requires : goal.risen-requires
 risen-requires t c =
-    let path_long : length c.args.path ≡ 8 = omega arith in
-    let met : let a = c.args in Met a.pool.now (get_or a.path (a.height - a.left) 0)
-    = ready_met c.requires path_long c.if-left-eq0.false in
-    let slot_read : let a = c.args in at a.pool.now c.node_at-at.result
-    ≡ at a.pool.now (slot_at (get_or a.path (a.height - a.left) 0)) = ap (at c.args.pool.now) c.node_at-at.ensures in
-    let is_full : let a = c.args in full (view a.pool.now (get_or a.path (a.height - a.left) 0)) ≡ true = met_full met
-    (rw slot_read at (sym c.count.ensures ∙ c.if-count-eq-ENTRIES.true)) in
-    let more = c.if-left-eq0.false in
-    (omega (arith, more), ready_on c.requires path_long more is_full c.split_inner-next.ensures (search rules))
+    let rd = ready_first c.requires c.in-len1-up.len_at_least in
+    let full = met_full rd.nodes.0 (rw c.node_at.ensures at (sym c.count.ensures ∙ c.if-count-eq-ENTRIES.true)) in
+    let e = c.of-eight.ensures in
+    (search rules, ready_on rd full c.args.up (rw (e.0, e.1, e.2) at c.split_inner-next.ensures))
+
+pub taken-requires : goal.taken-requires
+taken-requires t c =
+    let rd = ready_first c.requires c.in-len1-up.len_at_least in
+    let w = ap (at c.args.pool.now) c.node_at.ensures in
+    (rd.nodes.0, w, omega (arith, met_count rd.nodes.0, w, c.count.ensures, c.if-count-eq-ENTRIES.false), ready_pairs rd)
 
 pub returns-then-count-eq-ENTRIES : goal.returns-then-count-eq-ENTRIES
 returns-then-count-eq-ENTRIES t c =
-    let path_long : length c.args.path ≡ 8 = omega arith in
-    let met : let a = c.args in Met a.pool.now (get_or a.path (a.height - a.left) 0)
-    = ready_met c.requires path_long c.if-left-eq0.false in
-    let slot_read : let a = c.args in at a.pool.now c.node_at-at.result
-    ≡ at a.pool.now (slot_at (get_or a.path (a.height - a.left) 0)) = ap (at c.args.pool.now) c.node_at-at.ensures in
-    let is_full : let a = c.args in full (view a.pool.now (get_or a.path (a.height - a.left) 0)) ≡ true = met_full met
-    (rw slot_read at (sym c.count.ensures ∙ c.if-count-eq-ENTRIES.true)) in
-    let v = c.split_inner-next.ensures in
-    ready_split c.requires path_long c.if-left-eq0.false is_full v c.risen.ensures
+    let a = c.args in
+    let rd = ready_first c.requires c.in-len1-up.len_at_least in
+    let full = met_full rd.nodes.0 (rw c.node_at.ensures at (sym c.count.ensures ∙ c.if-count-eq-ENTRIES.true)) in
+    let e = c.of-eight.ensures in
+    rw (some_levels a.levels.now c.in-len1-up.len_at_least)
+    (rise_full a.pool.now a.split a.up (first_of a.levels.now) (rest_of a.levels.now) full
+    (rw (e.0, e.1, e.2) at c.split_inner-next.ensures) c.risen.ensures)
 
-pub overflow_sub-new : goal.overflow_sub-new
-overflow_sub-new t c = omega arith
-
-pub taken-pairs-requires : goal.taken-pairs-requires
-taken-pairs-requires t c =
-    let path_long : length c.args.path ≡ 8 = omega arith in
-    let met : let a = c.args in Met a.pool.now (get_or a.path (a.height - a.left) 0)
-    = ready_met c.requires path_long c.if-left-eq0.false in
-    let slot_read : let a = c.args in at a.pool.now c.node_at-at.result
-    ≡ at a.pool.now (slot_at (get_or a.path (a.height - a.left) 0)) = ap (at c.args.pool.now) c.node_at-at.ensures in
-    let w = slot_read in
-    let n = c.count.ensures in
-    (met, w, omega (arith, met_count met, w, n, c.if-count-eq-ENTRIES.false), ready_pairs c.requires path_long c.if-left-eq0.false)
-
-pub returns : goal.returns
-returns t c =
-    let path_long : length c.args.path ≡ 8 = omega arith in
-    let met : let a = c.args in Met a.pool.now (get_or a.path (a.height - a.left) 0)
-    = ready_met c.requires path_long c.if-left-eq0.false in
-    let slot_read : let a = c.args in at a.pool.now c.node_at-at.result
-    ≡ at a.pool.now (slot_at (get_or a.path (a.height - a.left) 0)) = ap (at c.args.pool.now) c.node_at-at.ensures in
-    let w = slot_read in
-    let room = met_room met (λ q. c.if-count-eq-ENTRIES.false (c.count.ensures ∙ rw (← w) at q)) in
-    ready_room c.requires path_long c.if-left-eq0.false room (omega arith) c.taken-pairs.ensures
+pub returns-else-count-eq-ENTRIES : goal.returns-else-count-eq-ENTRIES
+returns-else-count-eq-ENTRIES t c =
+    let a = c.args in
+    let rd = ready_first c.requires c.in-len1-up.len_at_least in
+    let room = met_room rd.nodes.0 (λ q. c.if-count-eq-ENTRIES.false (c.count.ensures ∙ rw c.node_at.ensures q)) in
+    rw (some_levels a.levels.now c.in-len1-up.len_at_least)
+    (rise_room a.pool.now a.split a.up (first_of a.levels.now) (rest_of a.levels.now) room (omega arith) c.taken.ensures)

@@ -1,10 +1,6 @@
--- `pool::crowned` meets its contract: the plan of a new root.
-use Rattle.split.proofs.Notes.{noted_append}
+-- The plan of a new root.
 use Rattle.split.proofs.Levels.{crowned}
 use Rattle.split.proofs.rising.crowned.Goals as goal
 
 pub returns : goal.returns
-returns c =
-    let a = c.args in
-    crowned a.pool.now a.new c.new_root-events.ensures
-    (noted_append c.note-used.ensures (noted_append c.note-root.ensures c.note-pairs.ensures))
+returns c = crowned c.args.pool.now c.args.new c.new_root.ensures c.note.ensures c.note-2.ensures c.note-3.ensures

@@ -1,0 +1,10 @@
+-- What its calls did.
+use mathlib.Core.Path.{ap}
+use Rattle.node.specs.View.{Record, view}
+use Rattle.split.proofs.halving.split_leaf.Goals as goal
+
+pub returns : goal.returns
+unfolding view
+returns c =
+    let e = ap (λ (r : Record). (r.0, c.args.new)) c.record-key.ensures in
+    record { wrote = rw c.link.ensures at c.new_node.ensures; noted = c.note_staying.ensures; goes_up = e }

@@ -1,7 +1,0 @@
--- `pool::note_entry` meets its contract: two pairs, one after the other.
-use Rattle.split.proofs.Notes.{noted_append}
-use Rattle.split.proofs.logging.note_entry.Goals as goal
-
-pub returns : goal.returns
-returns c =
-    noted_append (rw c.key_at.ensures at c.note-keyed.ensures) (rw c.value_at.ensures at c.note.ensures)
