@@ -9,7 +9,7 @@ use lib.Seq.{drop-cons}
 use Rattle.std.specs.Prelude.{Result, Ok, Err, Some}
 use Rattle.words.specs.Event.{at}
 use Rattle.node.specs.Slot.{count, names}
-use Rattle.node.specs.View.{Record, view, key_at, value_at}
+use Rattle.node.specs.View.{Record, view, link_at, key_at, value_at}
 use Rattle.node.specs.inner.Looked.{end_of}
 use Rattle.node.proofs.Views.{view_length}
 use Rattle.tree.specs.declared.descend.Fault.{Fault}
@@ -19,11 +19,16 @@ use Rattle.tree.proofs.Kids.{Named, named_at}
 use Rattle.walk.specs.declared.walking.Kid.{Kid}
 use Rattle.walk.specs.declared.walking.Seen.{Seen}
 use Rattle.walk.specs.inner.Checking.{kid_of, seen_with, Ready, Walks}
-use Rattle.walk.proofs.Walks.{stopped, carried}
+use Rattle.walk.proofs.Walks.{view_link, stopped, carried}
 
 -- the children of node j from a slot on: c is the one in the slot, and covers all that are left
 abbrev pub kids_left : List ℕ → ℕ → ℕ → Kid → List k.Kid
 kids_left m j slot c = k.kids_from c.number c.cover.lo (end_of c.cover) (drop slot (view m j).records)
+
+-- all of them, from the leftmost on
+pub all_left : (m : List ℕ) (j : ℕ) (c : Kid) → c.number ≡ at m (link_at j)
+    → k.kids (k.kid j c.cover.lo (end_of c.cover)) (view m j) ≡ kids_left m j 0 c
+all_left m j c e = rw (e, ← view_link m j) refl
 
 -- the walk of some children, the first of which is walked by f
 module _ (f : k.Kid → t.Seen → t.Walk) (c : k.Kid) (s : t.Seen) {m marks : List ℕ} where
@@ -44,12 +49,12 @@ module _ (f : k.Kid → t.Seen → t.Walk) (c : k.Kid) (s : t.Seen) {m marks : L
     unfolding t.each_child
     goes first = rw (is, ← first.walk_is)
 
--- the children of node j, walked up to a slot: the walk of all comes to that of those left, after what was seen, and can go on
-pub record Left (m : List ℕ) (levels j : ℕ) (first : Kid) (s₀ : t.Seen) (slot : ℕ) (c : Kid) (s : t.Seen) : Type 0 where
-  pub walk_is : t.each_child (t.node_walk levels m k.below_root_least j) (kids_left m j 0 first) s₀
-      ≡ t.each_child (t.node_walk levels m k.below_root_least j) (kids_left m j slot c) s
+-- the children of node b, walked up to a slot: the walk of all comes to that of those left, after what was seen, and can go on
+pub record Left (m : List ℕ) (levels : ℕ) (b : k.Kid) (s₀ : t.Seen) (slot : ℕ) (c : Kid) (s : t.Seen) : Type 0 where
+  pub walk_is : t.each_child (t.node_walk levels m k.below_root_least b.number) (k.kids b (view m b.number)) s₀
+      ≡ t.each_child (t.node_walk levels m k.below_root_least b.number) (kids_left m b.number slot c) s
   pub least_is : c.least ≡ k.below_root_least
-  pub parent_is : c.parent ≡ j
+  pub parent_is : c.parent ≡ b.number
   pub ready : Ready m s
 
 -- the records of node j, n of them in all, from a slot on

@@ -15,7 +15,7 @@ use Rattle.words.specs.Event.{at}
 use Rattle.words.proofs.Tests.{both, within_says}
 use Rattle.node.specs.Slot.{byte, count}
 use Rattle.node.specs.View.{View, view, slot_at, link_at}
-use Rattle.node.specs.inner.Looked.{Inside, end_of}
+use Rattle.node.specs.inner.Looked.{Inside}
 use Rattle.node.proofs.Views.{view_length}
 use Rattle.tree.specs.Header.{capacity_of, used_of}
 use Rattle.tree.specs.Kids as k
@@ -39,7 +39,7 @@ goes_on x = rw (← x.walk_is) at x.ready
 pub carried : {m marks : List ℕ} {w v : t.Walk} {r : Result Seen Fault} → w ≡ v → Walks m w r marks → Walks m v r marks
 carried e x = rw (← e) x
 
-view_link : (m : List ℕ) (j : ℕ) → (view m j).link ≡ at m (link_at j)
+pub view_link : (m : List ℕ) (j : ℕ) → (view m j).link ≡ at m (link_at j)
 unfolding view
 view_link m j = refl
 
@@ -192,11 +192,9 @@ module _ {m marks marks' : List ℕ} {r : Bool} (kid : Kid) (s : Seen) (met : Ma
             let f = sym x ∙ not-true b g in
             stopped (node_bad m least parent (kid_of kid) (seen_with s marks) (fresh n) levels z f ∙ rw (marked n))
 
-        pub down : not b ≡ false → {link : ℕ} → link ≡ at m (link_at kid.number) → {a : Result Seen Fault} {marks'' : List ℕ}
-            → Walks m (t.each_child (t.node_walk (levels - 1) m k.below_root_least kid.number)
-            (k.kids_from link kid.cover.lo (end_of kid.cover) said.records)
+        pub down : not b ≡ false → {a : Result Seen Fault} {marks'' : List ℕ}
+            → Walks m (t.each_child (t.node_walk (levels - 1) m k.below_root_least kid.number) (k.kids (kid_of kid) said)
             (seen_with (record { last = s.last; nodes = s.nodes + 1; records = s.records }) marks')) a marks'' → Walks m walk a marks''
-        down g e y =
+        down g y =
             let f = sym x ∙ not-false b g in
-            carried (rw (e, ← view_link m kid.number, marked n)
-            (node_down m least parent (kid_of kid) (seen_with s marks) (fresh n) levels z f)) y
+            carried (rw (marked n) (node_down m least parent (kid_of kid) (seen_with s marks) (fresh n) levels z f)) y

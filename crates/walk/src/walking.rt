@@ -3,6 +3,8 @@ ghost use Rattle.std.specs.Prelude.{ℕ, ◌≤◌, ◌≡◌, true, List, lengt
 ghost use Rattle.node.specs.inner.Looked.{end_of};
 ghost use Rattle.tree.specs.Header as h;
 ghost use Rattle.tree.specs.Kids as k;
+ghost use Rattle.node.specs.inner.Said.{said};
+ghost use Rattle.tree.specs.inner.Descended.{Names};
 ghost use Rattle.tree.specs.Check as t;
 ghost use Rattle.change.specs.Check.{walked};
 ghost use Rattle.walk.specs.inner.Checking.{kid_of, seen_with, leaf_walk, Room, Marked};
@@ -106,7 +108,8 @@ fn check_leaf(leaf: Node<'_>, cover: Cover, seen: Seen) -> Result<Seen, Fault>
     })
 }
 
-// A node with some levels below it, and all that is below it: child by child, each covering what is left up to the next key.
+// A node with some levels below it, and all that is below it.
+#[cycle(check_children_check_node)]
 fn check_node(
     pool: &[u64],
     marks: &mut [u8],
@@ -127,23 +130,40 @@ fn check_node(
     if !node.fits(kid.least, kid.cover) {
         return Err(Fault { node: kid.number });
     }
-    let mut child = Kid {
-        number: node.link(),
-        cover: kid.cover,
-        least: Kid::BELOW_ROOT_LEAST,
-        parent: kid.number,
-    };
-    let mut seen = Seen {
+    let counted = Seen {
         nodes: seen.nodes + 1,
         ..seen
     };
+    check_children(marks, levels - 1, node, kid.cover, counted)
+}
+
+// The children of a node and of its cover, slot by slot, slot 0 being the leftmost: in each the child covers what is left, up to the key.
+#[cycle(check_children_check_node)]
+fn check_children(
+    marks: &mut [u8],
+    levels: u64,
+    node: Node<'_>,
+    cover: Cover,
+    seen: Seen,
+) -> Result<Seen, Fault>
+    requires { Ready node.pool.now (seen_with seen marks.old) × Names node.slot }
+    ensures { Walks node.entry.pool.now (t.each_child (t.node_walk levels node.entry.pool.now k.below_root_least node.entry.number)
+        (k.kids (k.kid node.entry.number cover.lo (end_of cover)) (said node.entry)) (seen_with seen marks.old)) result marks.new }
+{
+    let mut child = Kid {
+        number: node.link(),
+        cover,
+        least: Kid::BELOW_ROOT_LEAST,
+        parent: node.number,
+    };
+    let mut met = seen;
     for slot in 0..count(node.slot) {
         let entry = name(node.slot, slot);
         let key = node.key(entry);
-        seen = check_node(pool, marks, levels - 1, child.until(key), seen)?;
+        met = check_node(node.pool, marks, levels, child.until(key), met)?;
         child = child.next(key, node.value(entry));
     }
-    check_node(pool, marks, levels - 1, child, seen)
+    check_node(node.pool, marks, levels, child, met)
 }
 
 // The two tests at the end, once all has been walked.
