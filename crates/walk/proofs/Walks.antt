@@ -82,7 +82,8 @@ leaf_cases true false j last s marks = refl
 leaf_cases true true j last s marks = refl
 
 leaf_ready : (good linked : Bool) (j last : ℕ) (m : List ℕ) (s : Seen) (marks : List ℕ) → Ready m (seen_with s marks)
-    → ReadyAfter m (walk_with (if not good then Err (record { node = j }) else if not linked then Err (record { node = last }) else Ok s) marks)
+    → ReadyAfter m
+    (walk_with (if not good then Err (record { node = j }) else if not linked then Err (record { node = last }) else Ok s) marks)
 leaf_ready false linked j last m s marks h = tt
 leaf_ready true false j last m s marks h = tt
 leaf_ready true true j last m s marks h = h
@@ -165,7 +166,8 @@ module _ {m marks marks' : List ℕ} {r : Bool} (kid : Kid) (s : Seen) (met : Ma
         stopped (node_stale m least parent (kid_of kid) (seen_with s marks) levels (sym met.answer_is ∙ f) ∙ rw same)
 
     module _ (n : not r ≡ false) where
-      pub leaf_done : Ready m (seen_with s marks) → levels ≡ 0 → {a : Result Seen Fault} → a ≡ leaf_walk m (kid_of kid) s → Walks m walk a marks'
+      pub leaf_done : Ready m (seen_with s marks) → levels ≡ 0 → {a : Result Seen Fault} → a ≡ leaf_walk m (kid_of kid) s
+          → Walks m walk a marks'
       leaf_done ready z {a} e =
           record {
             walk_is = is;

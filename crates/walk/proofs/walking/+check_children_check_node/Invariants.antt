@@ -8,8 +8,8 @@ use Rattle.walk.proofs.walking.+check_children_check_node.Given as goal
 
 abbrev pub invariant-check_children-loop-slot : goal.invariant-check_children-loop-slot
 invariant-check_children-loop-slot l =
-    Left l.node.pool.now l.levels (kid l.node.number l.fn.cover.lo (end_of l.fn.cover)) (seen_with l.initial.met l.initial.marks) l.slot l.child
-    (seen_with l.met l.marks)
+    Left l.node.pool.now l.levels (kid l.node.number l.fn.cover.lo (end_of l.fn.cover)) (seen_with l.initial.met l.initial.marks)
+    l.slot l.child (seen_with l.met l.marks)
 
 abbrev pub decreases-check_children : goal.decreases-check_children
 decreases-check_children l = 2 * l.levels + 1

@@ -18,22 +18,24 @@ use Rattle.node.proofs.layout.Node.look.Goals.{then-n-least-via-then-n-least, th
 pub returns-then-n-eq0 : goal.returns-then-n-eq0
 returns-then-n-eq0 c =
     let a = c.args in
-    rw c.then_some.ensures (none_named a.least a.from a.key a.self.pool.now a.self.number c.args.self.slot_is c.count-n.ensures c.if-n-eq0.true)
+    rw c.then_some.ensures
+    (none_named a.least a.from a.key a.self.pool.now a.self.number a.self.slot_is c.count-n.ensures c.if-n-eq0.true)
 
 pub returns-then-n-least : goal.returns-then-n-least
 returns-then-n-least c =
     let a = c.args in
     elim c.then-n-least.branch [
-      | then-n-least-via-then-n-least w ↦ too_few a.least a.from a.key a.self.pool.now a.self.number c.args.self.slot_is c.count-n.ensures w.if-n-least.true
+      | then-n-least-via-then-n-least w ↦
+          too_few a.least a.from a.key a.self.pool.now a.self.number a.self.slot_is c.count-n.ensures w.if-n-least.true
       | then-n-least-via-else-n-least+then-n-gt-ENTRIES w ↦
-          too_many a.least a.from a.key a.self.pool.now a.self.number c.args.self.slot_is c.count-n.ensures w.if-n-gt-ENTRIES.true
+          too_many a.least a.from a.key a.self.pool.now a.self.number a.self.slot_is c.count-n.ensures w.if-n-gt-ENTRIES.true
     ]
 
 pub returns-then-e-ge-ENTRIES : goal.returns-then-e-ge-ENTRIES
 returns-then-e-ge-ENTRIES c =
     let i = c.loop-j in
     let a = c.args in
-    walked a.least a.from a.key a.self.pool.now a.self.number c.args.self.slot_is c.count-n.ensures (omega arith) (omega arith)
+    walked a.least a.from a.key a.self.pool.now a.self.number a.self.slot_is c.count-n.ensures (omega arith) (omega arith)
     (i.invariant.1
     ∙ walk_high _ _ _ i.j i.last i.after _ i.rest (omega arith) (and_mask i.rest 8)
     (le-ltb (bit_and i.rest 255) entries c.if-e-ge-ENTRIES.true))
@@ -44,7 +46,7 @@ returns-then-not-follows c =
     let i = c.loop-j in
     let fault = sym c.follows.ensures ∙ c.if-not-follows.true in
     let a = c.args in
-    walked a.least a.from a.key a.self.pool.now a.self.number c.args.self.slot_is c.count-n.ensures (omega arith) (omega arith)
+    walked a.least a.from a.key a.self.pool.now a.self.number a.self.slot_is c.count-n.ensures (omega arith) (omega arith)
     (i.invariant.1
     ∙ walk_fault _ _ _ i.j i.last i.after _ i.rest (omega arith) (and_mask i.rest 8)
     (lt-ltb (bit_and i.rest 255) entries entry_low) (rw (← c.key-x.ensures) fault))
@@ -72,6 +74,6 @@ pub returns : goal.returns
 returns c =
     let i = c.loop-j in
     let a = c.args in
-    walked a.least a.from a.key a.self.pool.now a.self.number c.args.self.slot_is c.count-n.ensures (omega arith) (omega arith)
+    walked a.least a.from a.key a.self.pool.now a.self.number a.self.slot_is c.count-n.ensures (omega arith) (omega arith)
     (i.invariant.1
     ∙ walk_end _ _ _ i.j i.last i.after _ i.rest (omega arith))
