@@ -71,7 +71,7 @@ impl<'a> Node<'a> {
         requires { e < s.entries }
         ensures { result ≡ at self.entry.pool.now (v.key_at self.entry.number e) }
     {
-        self.pool[Node::key_at(self.number, e) as usize]
+        record_key(self.pool, self.number, e)
     }
 
     // The value or the child of entry e.

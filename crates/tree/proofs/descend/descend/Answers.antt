@@ -49,11 +49,14 @@ returns-in_err-node c =
 at_leaf : (c : Then-left-eq0) → MetGood c.args.pool.now c.loop-left.step leaf_least c.args.key c.in_ok-node.node c.in_ok-node.seen
 at_leaf c = rw (least_is, c.if-left-eq0.true) at c.in_ok-node.ensures
 
+more : (c : Else-left-eq0) → c.loop-left.left - 1 ≡ suc (c.loop-left.left - 1 - 1)
+more c = omega (arith, c.if-left-eq0.false)
+
 on_inner : (c : Else-left-eq0) → On c.args.pool.now c.args.key (suc (c.loop-left.left - 1 - 1)) c.loop-left.step
-on_inner c = let more : c.loop-left.left - 1 ≡ suc (c.loop-left.left - 1 - 1) = omega (arith, c.if-left-eq0.false) in rw more at c.loop-left.invariant.1
+on_inner c = rw (more c) at c.loop-left.invariant.1
 
 at_inner : (c : Else-left-eq0) → MetGood c.args.pool.now c.loop-left.step inner_least c.args.key c.in_ok-node.node c.in_ok-node.seen
-at_inner c = let more : c.loop-left.left - 1 ≡ suc (c.loop-left.left - 1 - 1) = omega (arith, c.if-left-eq0.false) in rw (least_is, more) at c.in_ok-node.ensures
+at_inner c = rw (least_is, more c) at c.in_ok-node.ensures
 
 pub place-at-requires : goal.place-at-requires
 place-at-requires c =
