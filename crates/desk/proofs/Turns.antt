@@ -1,5 +1,5 @@
 -- What the steps of a turn come to is what the turn answers and leaves.
-use Prim.Native.Nat.{ℕ, suc, ◌-◌, ◌≤◌, ◌<◌}
+use Prim.Native.Nat.{ℕ, suc, ◌-◌, ◌≤◌}
 use mathlib.Core.Path.{◌≡◌, refl, ◌∙◌, ap}
 use mathlib.Core.List.{List, map}
 use mathlib.Core.Bool.{Bool, true, false, not}
@@ -14,13 +14,12 @@ use Rattle.change.specs.declared.Request.{Request}
 use Rattle.desk.specs.declared.answer.Turned.{Turned}
 use Rattle.desk.specs.declared.answer.Turned.TheVariants.{Idle}
 use Rattle.desk.specs.declared.answer.Turn.{Turn}
-use Rattle.desk.specs.Desk.{Desk, desks_most, held, with_desk, may_turn, choose}
+use Rattle.desk.specs.Desk.{Desk, held, with_desk, may_turn, choose}
 use Rattle.desk.specs.Turn.{Left, as_handed, serve_desk, serve_turn, turn}
 use Rattle.desk.specs.Promises.{PlanTurnPromise}
 use Rattle.desk.specs.inner.Parts.{chosen}
-use Rattle.desk.proofs.Bounds.{may_turn_true}
 use Rattle.desk.proofs.Choose.{full_range}
-use Rattle.desk.proofs.LentDesks.{length_reads, with_reads}
+use Rattle.desk.proofs.LentDesks.{with_reads}
 use Rattle.desk.proofs.Served.{by}
 
 module _ (m l : List ℕ) (ds : List Desk) (last : ℕ) where
@@ -55,39 +54,26 @@ module _ (m l : List ℕ) (ds : List Desk) (last : ℕ) where
       go false false None e = refl
       go false false (Some q) e = cc
 
-  serves : (x : ℕ × Request) → chosen l ds last ≡ Ok (Some x)
-      → (turn m l ds last ≡ serve_desk m l last (suc x.0) (Some x.1)) × (x.0 < length ds) × (length ds ≤ desks_most)
+  pub serves : (x : ℕ × Request) → chosen l ds last ≡ Ok (Some x) → turn m l ds last ≡ serve_desk m l last (suc x.0) (Some x.1)
   unfolding chosen serve_turn
-  serves x = go (may_turn (length ds) last) refl (ltb (length l) list_words) (held ds k) refl
+  serves x = go (not (may_turn (length ds) last)) (ltb (length l) list_words) (held ds k) refl
     where
-      go : (a : Bool) → may_turn (length ds) last ≡ a → (b : Bool) (d : Desk) → held ds k ≡ d → of (not a) b d ≡ Ok (Some x)
-          → (by m l (length ds) last k (not a) b d ≡ serve_desk m l last (suc x.0) (Some x.1)) × (x.0 < length ds)
-          × (length ds ≤ desks_most)
-      go false t b d f e = cc
-      go true t true d f e = cc
-      go true t false None f e = cc
-      go true t false (Some q) f e =
-          let r = full_range ds k (rw f) in
+      go : (a b : Bool) (d : Desk) → held ds k ≡ d → of a b d ≡ Ok (Some x)
+          → by m l (length ds) last k a b d ≡ serve_desk m l last (suc x.0) (Some x.1)
+      go true b d f e = cc
+      go false true d f e = cc
+      go false false None f e = cc
+      go false false (Some q) f e =
+          let one : 1 ≤ k = (full_range ds k (rw f)).0 in
           let pair : (k - 1, q) ≡ x = cc in
           let at : k - 1 ≡ x.0 = ap (λ (y : ℕ × Request). y.0) pair in
           let is : q ≡ x.1 = ap (λ (y : ℕ × Request). y.1) pair in
-          let k_is : k ≡ suc x.0 = omega (arith, r, at) in (
-            ap (λ j. serve_desk m l last j (Some q)) k_is ∙ ap (λ p. serve_desk m l last (suc x.0) (Some p)) is,
-            omega (arith, r, at),
-            (may_turn_true (length ds) last t).1,
-          )
+          let k_is : k ≡ suc x.0 = omega arith in
+          ap (λ j. serve_desk m l last j (Some q)) k_is ∙ ap (λ p. serve_desk m l last (suc x.0) (Some p)) is
 
 -- of lent desks
 module _ {A : Type 0} {says : A → Desk} {reads : List A → List Desk} (each : (ds : List A) → reads ds ≡ map says ds)
     (made : Desk → A) (back : (d : Desk) → says (made d) ≡ d) (m l : List ℕ) (ds : List A) (last : ℕ) where
-  -- a turn serves the desk at a place, of which there are few
-  pub served : (x : ℕ × Request) → chosen l (reads ds) last ≡ Ok (Some x)
-      → (turn m l (reads ds) last ≡ serve_desk m l last (suc x.0) (Some x.1)) × (x.0 < length ds) × (length ds ≤ desks_most)
-  served x e =
-      let n = length_reads each ds in
-      let h = serves m l (reads ds) last x e in
-      (h.0, rw n at h.1, rw n at h.2)
-
   abbrev pub Does : Turn → List ℕ → List A → Type 0
   Does r l' ds' = PlanTurnPromise m l (reads ds) last r l' (reads ds') × (ds' ≡ with_desk ds r.member (made None))
 

@@ -1,5 +1,5 @@
 // A turn.
-ghost use Rattle.std.specs.Prelude.{◌≡◌, suc, ◌-◌, ◌≤◌, length};
+ghost use Rattle.std.specs.Prelude.{◌≡◌, suc, ◌-◌, ◌≤◌, ◌<◌, length, IfOk, IfSome};
 ghost use Rattle.words.specs.Lists.{count_from};
 ghost use Rattle.desk.specs.Desk as d;
 ghost use Rattle.desk.specs.Desk.{with_desk};
@@ -16,7 +16,8 @@ use words::{Pool, Refusal};
 // The place and the request of the first full desk from one place up to another.
 fn first_full<L: Lent>(desks: &[L], from: usize, to: usize) -> Option<(usize, Request)>
     requires { to ≤ length desks.now }
-    ensures { let ds = L.reads desks.now in result ≡ found ds (d.first_full ds (count_from (suc from) (to - from))) }
+    ensures found { let ds = L.reads desks.now in result ≡ found ds (d.first_full ds (count_from (suc from) (to - from))) }
+    ensures within { IfSome result (λ x. x.0 < to) }
 {
     for i in from..to {
         if let Some(request) = desks[i].desk() {
@@ -32,7 +33,8 @@ fn choose<L: Lent>(
     desks: &[L],
     last: u64,
 ) -> Result<Option<(usize, Request)>, Refusal>
-    ensures { result ≡ chosen list.now (L.reads desks.now) last }
+    ensures chosen { result ≡ chosen list.now (L.reads desks.now) last }
+    ensures within { IfOk result (λ o. IfSome o (λ x. x.0 < length desks.now)) }
 {
     let n = desks.len();
     if n == 0 || DeskList::MOST < n || (n as u64) < last {
