@@ -35,9 +35,11 @@ returns-then-needed-gt-HEIGHT_MOST c =
     record { answer = both.0; list = both.1 }
 
 pub split_put-requires : goal.split_put-requires
-split_put-requires c =
-    (to_split c.requires.0 c.path_to-path.ensures c.nodes_needed-needed.ensures.0 (λ i. omega (arith, c.type_inv.pool i))
-    c.if-needed-gt-HEIGHT_MOST.false c.if-pool-needed.false, c.new-list.ensures.events)
+split_put-requires c = (
+  to_split c.requires.0 c.path_to-path.ensures c.nodes_needed-needed.ensures.0 (λ i. omega (arith, c.type_inv.pool i))
+      c.if-needed-gt-HEIGHT_MOST.false c.if-pool-needed.false,
+  c.new-list.ensures.events,
+)
 
 pub returns : goal.returns
 returns c =
