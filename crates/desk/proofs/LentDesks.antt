@@ -8,7 +8,7 @@ use Rattle.std.proofs.lemmas.List.{get_or-map, map-set}
 use Rattle.std.specs.Prelude.{Some, if◌then◌else◌}
 use Rattle.change.specs.declared.Request.{Request}
 use Rattle.desk.specs.Desk.{Desk, fresh, held, with_desk, accepts}
-use Rattle.desk.specs.Lent.{laid}
+use Rattle.desk.specs.Promises.{laid}
 use Rattle.desk.specs.Turn.{submit_desks}
 
 module _ {A : Type 0} {says : A → Desk} {reads : List A → List Desk} (each : (ds : List A) → reads ds ≡ map says ds) where

@@ -12,8 +12,7 @@ use Rattle.change.specs.declared.Request.{Request}
 use Rattle.desk.specs.Desk.{Desk, full, held, with_desk, may_submit}
 use Rattle.desk.specs.Turn.{submit_answer}
 use Rattle.desk.specs.Answers.{submit_says}
-use Rattle.desk.specs.Lent.{laid}
-use Rattle.desk.specs.Promises.{SubmitPromise}
+use Rattle.desk.specs.Promises.{SubmitPromise, laid}
 use Rattle.desk.proofs.Bounds.{may_submit_true}
 use Rattle.desk.proofs.LentDesks.{length_reads, held_reads, laid_reads}
 

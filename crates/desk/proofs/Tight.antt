@@ -26,8 +26,7 @@ use Rattle.desk.specs.declared.lent.Lent.{Ghosts}
 use Rattle.desk.specs.declared.answer.Turn.{Turn}
 use Rattle.desk.specs.declared.asking.Asked.{Asked}
 use Rattle.desk.specs.Desk.{Desk, fresh, with_desk}
-use Rattle.desk.specs.Lent.{laid}
-use Rattle.desk.specs.Promises.{SubmitPromise, PlanTurnPromise, TurnPromise}
+use Rattle.desk.specs.Promises.{SubmitPromise, PlanTurnPromise, TurnPromise, laid}
 use base.Logic.{SProp}
 use contract.Monad.{Fun}
 use prog.Memory.{Memory}

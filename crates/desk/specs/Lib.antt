@@ -7,5 +7,4 @@ pub mod Refused
 pub mod Rows
 pub mod Demand3
 pub mod OurPools
-pub mod Lent
 pub mod inner

@@ -1,12 +1,12 @@
 -- "Every public call promises its answer and each word of pool, list .. and desks for all inputs, refusals too." Pool, list and desks are
 -- m, l and ds before the call, and m', l' and ds' after it; r is the answer.
-use Rattle.std.specs.Prelude.{ℕ, ◌≡◌, List, [], ◌∷◌, Result}
+use Rattle.std.specs.Prelude.{ℕ, ◌≡◌, List, [], ◌∷◌, Some, Result, if◌then◌else◌}
 use Rattle.words.specs.Carry.{CarryAllPromise}
 use Rattle.words.specs.declared.refusal.Refusal.{Refusal}
 use Rattle.change.specs.declared.Request.{Request}
 use Rattle.desk.specs.declared.answer.Turn.{Turn}
 use Rattle.desk.specs.declared.asking.Asked.{Asked}
-use Rattle.desk.specs.Desk.{Desk}
+use Rattle.desk.specs.Desk.{Desk, with_desk, accepts}
 use Rattle.desk.specs.Turn as t
 use Rattle.desk.specs.Answers.{submit_says, turn_says}
 
@@ -37,3 +37,8 @@ AskPromise m l desk last q r m' l' =
     (submit_says r.submitted ≡ submit_says (t.submit_answer (desk ∷ []) 1))
     × (turn_says r.turn ≡ turn_says (t.ask m l desk last q).answer) × (m' ≡ (t.ask m l desk last q).pool)
     × (l' ≡ (t.ask m l desk last q).list) × (r.desk ∷ [] ≡ t.ask_desks m l desk last q)
+
+-- desks may be lent in another form. The promises above are of the desks that these are read as; and of the lent desks themselves, "Submit
+-- fills an empty one.": the desks after a submit, by what they read as and by the form that holds a desk
+abbrev pub laid : {A : Type 0} → (List A → List Desk) → (Desk → A) → List A → ℕ → Request → List A
+laid reads made ds member q = if accepts (reads ds) member then with_desk ds member (made (Some q)) else ds

@@ -1,8 +1,7 @@
 // A member submits a request.
 ghost use Rattle.std.specs.Prelude.{◌≡◌, ◌-◌, if◌then◌else◌};
 ghost use Rattle.desk.specs.Desk.{may_submit};
-ghost use Rattle.desk.specs.Lent.{laid};
-ghost use Rattle.desk.specs.Promises.{SubmitPromise};
+ghost use Rattle.desk.specs.Promises.{SubmitPromise, laid};
 
 use crate::lent::{DeskList, Lent};
 use change::Request;

@@ -3,7 +3,7 @@ use Rattle.std.specs.Prelude.{◌≡◌, ℕ, List, map, eqb, Some, None, if◌t
 use Rattle.change.specs.declared.Request.{Request}
 use Rattle.change.specs.declared.Request.TheVariants.{Put, Fetch, Delete}
 use Rattle.desk.specs.Desk.{Desk, with_desk}
-use Rattle.desk.specs.Lent.{laid}
+use Rattle.desk.specs.Promises.{laid}
 use Rattle.desk.specs.Turn.{turn}
 use Rattle.turns.specs.declared.record.DeskRecord.{DeskRecord}
 
