@@ -6,7 +6,9 @@ use native.Mathlib.Nat.{zero-add}
 use lib.ListN.{length}
 use Rattle.std.specs.Prelude.{Result, Ok}
 use Rattle.words.specs.declared.event.Event.{Event}
+use Rattle.words.specs.declared.write.EventList.{EventList}
 use Rattle.words.specs.Written.{written, Wrote}
+use Rattle.words.proofs.Written.{wrote_all}
 use Rattle.words.specs.declared.refusal.Refusal.{Refusal}
 use Rattle.change.specs.declared.Outcome.{Outcome}
 use Rattle.change.specs.Gate.{Planned, list_after, with_count, answered}
@@ -22,9 +24,10 @@ unfolding written
 quietly p r l e = rw e (refl, refl)
 
 -- events written from the first on: their number is in the answer, and the list has them
-pub planned : {A : Type 0} (p : Planned A) (f : ℕ → A) (es : List Event) {l l' : List ℕ} {r : ℕ}
-    → p ≡ record { answer = Ok (f (length es)); events = es } → Wrote es 0 l r l' → (Ok (f r) ≡ p.answer) × (l' ≡ list_after p l)
-planned p f es e w = rw e (ap (λ (n : ℕ). Ok (f n)) (w.next ∙ zero-add (length es)), w.list)
+pub planned : {A : Type 0} (p : Planned A) (f : ℕ → A) (es : List Event) {a b : EventList} {l l' : List ℕ}
+    → p ≡ record { answer = Ok (f (length es)); events = es } → Wrote es a b → a.words.now ≡ l → a.events ≡ 0 → l' ≡ b.words.now
+    → (Ok (f b.events) ≡ p.answer) × (l' ≡ list_after p l)
+planned p f es e w l n now = rw e (ap (λ (n : ℕ). Ok (f n)) (w.next ∙ rw (n, zero-add (length es))), wrote_all w l n now)
 
 -- the same of an outcome with its event count
 pub quiet_answer : (p : Planned Outcome) (r : Result Outcome Refusal) (l : List ℕ) → p ≡ record { answer = r; events = [] }
@@ -32,8 +35,8 @@ pub quiet_answer : (p : Planned Outcome) (r : Result Outcome Refusal) (l : List 
 unfolding written
 quiet_answer p r l e = rw e (refl, refl)
 
-pub planned_answer : (p : Planned Outcome) (o : Outcome) (es : List Event) {l l' : List ℕ} {r : ℕ}
-    → p ≡ record { answer = Ok o; events = es } → Wrote es 0 l r l'
-    → (Ok (record { outcome = o; events = r }) ≡ answered p) × (l' ≡ list_after p l)
-planned_answer p o es e w =
-    rw e (ap (λ (n : ℕ). Ok (record { outcome = o; events = n })) (w.next ∙ zero-add (length es)), w.list)
+pub planned_answer : (p : Planned Outcome) (o : Outcome) (es : List Event) {a b : EventList} {l l' : List ℕ}
+    → p ≡ record { answer = Ok o; events = es } → Wrote es a b → a.words.now ≡ l → a.events ≡ 0 → l' ≡ b.words.now
+    → (Ok (record { outcome = o; events = b.events }) ≡ answered p) × (l' ≡ list_after p l)
+planned_answer p o es e w l n now =
+    rw e (ap (λ (c : ℕ). Ok (record { outcome = o; events = c })) (w.next ∙ rw (n, zero-add (length es))), wrote_all w l n now)

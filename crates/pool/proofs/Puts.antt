@@ -10,6 +10,7 @@ use Rattle.std.specs.Prelude.{Ok}
 use Rattle.words.specs.Pool.{line}
 use Rattle.words.specs.declared.event.Event.TheVariants.{Store as store, Flush as flush, Fence as fence}
 use Rattle.words.specs.Blocks.{once}
+use Rattle.words.specs.declared.write.EventList.{EventList}
 use Rattle.words.specs.Written.{Wrote}
 use Rattle.words.proofs.Written.{wrote_append}
 use Rattle.node.specs.Lists.{insert, all_below}
@@ -22,7 +23,7 @@ use Rattle.tree.proofs.Leaves.{AtLeaf}
 use Rattle.change.specs.declared.Outcome.TheVariants.{New, Replaced}
 use Rattle.change.specs.Put.{replace_events, fill_events, put_at}
 use Rattle.change.proofs.Lines.{entry_stored}
-use Rattle.pool.specs.inner.Puts.{Says}
+use Rattle.pool.specs.inner.Puts.{Says, put_there}
 
 -- the entry of a place that a slot word names
 pub entry_low : (w place : ℕ) {e : ℕ} → (place < count w) × (count w ≤ entries) × (all_below entries (names w) ≡ true)
@@ -30,10 +31,10 @@ pub entry_low : (w place : ℕ) {e : ℕ} → (place < count w) × (count w ≤ 
 entry_low w place b e = rw e (below_at entries place (names w) b.2 (rw length_names b.0))
 
 module _ {u : View} {key : ℕ} {s : Seat} (h : Says u key s) (value : ℕ) where
-  pub filled : {e : ℕ} → e ≡ spot (names s.slot) → {x v f a b n n₁ n₂ n₃ n₄ : ℕ} {l l₁ l₂ l₃ l₄ l₅ : List ℕ}
+  pub filled : {e : ℕ} → e ≡ spot (names s.slot) → {x v f a b : ℕ} {l l₁ l₂ l₃ l₄ l₅ : EventList}
       → x ≡ key_at s.leaf e → v ≡ value_at s.leaf e → f ≡ line v → a ≡ slot_at s.leaf → b ≡ slot (insert s.rank e (names s.slot))
-      → Wrote (store x key ∷ []) 0 l n₁ l₁ → Wrote (store v value ∷ []) n₁ l₁ n₂ l₂ → Wrote (flush f ∷ []) n₂ l₂ n₃ l₃
-      → Wrote (fence ∷ []) n₃ l₃ n₄ l₄ → Wrote (once a b) n₄ l₄ n l₅ → Wrote (fill_events s.leaf u (key, value)) 0 l n l₅
+      → Wrote (store x key ∷ []) l l₁ → Wrote (store v value ∷ []) l₁ l₂ → Wrote (flush f ∷ []) l₂ l₃
+      → Wrote (fence ∷ []) l₃ l₄ → Wrote (once a b) l₄ l₅ → Wrote (fill_events s.leaf u (key, value)) l l₅
   filled {e} spot_is x v f a b c₁ c₂ c₃ c₄ c₅ =
       rw (h.names_are, h.rank_is, ← spot_is, entry_stored s.leaf e (key, value), ← b, ← x, ← v, ← f, ← a)
       (wrote_append c₁ (wrote_append c₂ (wrote_append c₃ (wrote_append c₄ c₅))))
@@ -49,13 +50,14 @@ module _ {m : List ℕ} {key : ℕ} {s : Seat} (a : AtLeaf m key s) where
   named_count : length u.named ≡ count s.slot
   named_count = ap length a.names_are ∙ length_names s.slot
 
-  module _ (value : ℕ) (above : List ℕ) where
+  module _ (value : ℕ) where
     pub put_present : s.there ≡ true
-        → put_at m key value s.leaf above ≡ record { answer = Ok Replaced; events = replace_events s.leaf u (key, value) }
+        → put_there m key value ≡ record { answer = Ok Replaced; events = replace_events s.leaf u (key, value) }
     unfolding put_at
-    put_present t = rw (sym a.seated.there_is ∙ t)
+    put_present t = rw (a.seated.way_is, sym a.seated.there_is ∙ t)
 
     pub put_room : s.there ≡ false → count s.slot < entries
-        → put_at m key value s.leaf above ≡ record { answer = Ok New; events = fill_events s.leaf u (key, value) }
+        → put_there m key value ≡ record { answer = Ok New; events = fill_events s.leaf u (key, value) }
     unfolding put_at
-    put_room t h = rw (sym a.seated.there_is ∙ t, ne_eqb (length u.named) entries (λ e. omega (arith, named_count)))
+    put_room t h =
+        rw (a.seated.way_is, sym a.seated.there_is ∙ t, ne_eqb (length u.named) entries (λ e. omega (arith, named_count)))

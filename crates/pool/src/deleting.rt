@@ -4,7 +4,7 @@ ghost use Rattle.pool.specs.Promises.{DeletePromise};
 use crate::gate::{pass_gate, pass_list};
 use change::{Answer, Outcome};
 use node::slot::without_name;
-use words::{Pool, Refusal, write_once};
+use words::{EventList, Pool, Refusal};
 
 pub fn delete(pool: &[u64], list: &mut [u64], key: u64) -> Result<Answer, Refusal>
     ensures { DeletePromise pool.now list.old key result list.new }
@@ -18,9 +18,10 @@ pub fn delete(pool: &[u64], list: &mut [u64], key: u64) -> Result<Answer, Refusa
         });
     }
     let slot = without_name(seat.slot, seat.rank);
-    let events = write_once(list, 0, Pool::node_at(seat.leaf), slot);
+    let mut list = EventList::new(list);
+    list.once(Pool::node_at(seat.leaf), slot);
     Ok(Answer {
         outcome: Outcome::Removed,
-        events,
+        events: list.events,
     })
 }

@@ -14,33 +14,33 @@ use change::{Answer, Outcome};
 use node::Node;
 use node::slot::{count, name, spot, with_name};
 use tree::descend::Seat;
-use words::{Pool, Refusal, write_fence, write_flush, write_once, write_store};
+use words::{EventList, Pool, Refusal};
 
 // A present key: its value is stored.
-fn replace(list: &mut [u64], seat: Seat, value: u64) -> u64
-    requires list_words_in_bounds { (p.list_words ≤ length list.old) × (seat.leaf ≤ p.capacity_most) }
+fn replace(list: &mut EventList, seat: Seat, value: u64)
+    requires room { (list.old.events ≡ 0) × (seat.leaf ≤ p.capacity_most) }
     requires rank_bound { (seat.rank < s.count seat.slot) × (s.count seat.slot ≤ s.entries)
         × (all_below s.entries (s.names seat.slot) ≡ true) }
-    ensures { Replaces seat value list.old result list.new }
+    ensures { Replaces seat value list.old list.new }
 {
-    let word = Node::value_at(seat.leaf, name(seat.slot, seat.rank));
-    write_once(list, 0, word, value)
+    let entry = name(seat.slot, seat.rank);
+    list.once(Node::value_at(seat.leaf, entry), value);
 }
 
 // A leaf that is not full: key and value into the lowest unused entry, then the slot word.
-fn fill(list: &mut [u64], seat: Seat, key: u64, value: u64) -> u64
-    requires { (p.list_words ≤ length list.old) × (seat.leaf ≤ p.capacity_most) × (seat.rank ≤ s.count seat.slot)
+fn fill(list: &mut EventList, seat: Seat, key: u64, value: u64)
+    requires { (list.old.events ≡ 0) × (seat.leaf ≤ p.capacity_most) × (seat.rank ≤ s.count seat.slot)
         × (s.count seat.slot < s.entries) }
-    ensures { Fills seat (key, value) list.old result list.new }
+    ensures { Fills seat (key, value) list.old list.new }
 {
     let entry = spot(seat.slot);
     let word = Node::value_at(seat.leaf, entry);
-    let n1 = write_store(list, 0, Node::key_at(seat.leaf, entry), key);
-    let n2 = write_store(list, n1, word, value);
-    let n3 = write_flush(list, n2, Pool::line(word));
-    let n4 = write_fence(list, n3);
+    list.store(Node::key_at(seat.leaf, entry), key);
+    list.store(word, value);
+    list.flush(Pool::line(word));
+    list.fence();
     let slot = with_name(seat.slot, seat.rank, entry);
-    write_once(list, n4, Pool::node_at(seat.leaf), slot)
+    list.once(Pool::node_at(seat.leaf), slot);
 }
 
 // The leaf of the key was found.
@@ -52,24 +52,30 @@ fn put_at(
     value: u64,
 ) -> Result<Answer, Refusal>
     requires { Admitted pool.now key seat × (p.list_words ≤ length list.old) }
-    ensures answer { result ≡ answered (put_there pool.now key value seat) }
-    ensures list { list.new ≡ list_after (put_there pool.now key value seat) list.old }
+    ensures answer { result ≡ answered (put_there pool.now key value) }
+    ensures list { list.new ≡ list_after (put_there pool.now key value) list.old }
 {
     if seat.there {
-        let events = replace(list, seat, value);
+        let mut list = EventList::new(list);
+        replace(&mut list, seat, value);
         return Ok(Answer {
             outcome: Outcome::Replaced,
-            events,
+            events: list.events,
         });
     }
     if count(seat.slot) < Node::ENTRIES {
-        let events = fill(list, seat, key, value);
+        let mut list = EventList::new(list);
+        fill(&mut list, seat, key, value);
         return Ok(Answer {
             outcome: Outcome::New,
-            events,
+            events: list.events,
         });
     }
-    put_full(pool, list, seat, key, value)
+    let events = put_full(pool, list, seat.slot, seat.rank, key, value)?;
+    Ok(Answer {
+        outcome: Outcome::New,
+        events,
+    })
 }
 
 pub fn put(pool: &[u64], list: &mut [u64], key: u64, value: u64) -> Result<Answer, Refusal>

@@ -3,11 +3,12 @@ ghost use Rattle.std.specs.Prelude.{◌≤◌, ◌≡◌, length};
 ghost use Rattle.words.specs.Pool as p;
 ghost use Rattle.change.specs.Recover as s;
 ghost use Rattle.pool.specs.Promises.{RecoverPromise};
+ghost use Rattle.pool.specs.inner.Logging.{Logged};
 
 use crate::gate::{pass_form, pass_list};
 use change::Recovery;
 use split::logging::finish_log;
-use words::{Pool, Refusal};
+use words::{EventList, Pool, Refusal};
 
 // Whether recovery may store to a word: used, root, height, or a word of a node.
 fn may_store(total: u64, word: u64) -> bool
@@ -16,23 +17,24 @@ fn may_store(total: u64, word: u64) -> bool
     (Pool::USED_AT..total).contains(&word) && !(Pool::LOG_AT..Pool::NODES_AT).contains(&word)
 }
 
-// Whether the log has at most 31 pairs, and each address may be stored to.
-fn log_agrees(pool: &[u64]) -> bool
+// The pairs of the log: at most 31, and each address may be stored to.
+fn log_of(pool: &[u64]) -> Result<&[[u64; 2]], Refusal>
     requires { p.words_least ≤ length pool.now }
-    ensures { result ≡ s.log_agrees pool.now }
+    ensures { Logged pool.now result }
 {
     let pairs = pool[Pool::COMMIT_AT as usize];
     if Pool::PAIRS_MOST < pairs {
-        return false;
+        return Err(Refusal::BadLog);
     }
     let total = pool[Pool::TOTAL_AT as usize];
-    for i in 0..pairs {
-        let at = (Pool::PAIRS_AT + 2 * i) as usize;
-        if !may_store(total, pool[at]) {
-            return false;
+    let (all, _) = pool[Pool::PAIRS_AT as usize..].as_chunks::<2>();
+    let log = &all[..pairs as usize];
+    for [address, _] in log {
+        if !may_store(total, *address) {
+            return Err(Refusal::BadLog);
         }
     }
-    true
+    Ok(log)
 }
 
 // Plans the rest of an unfinished change. Root and used are not looked at: a cut may have left them apart.
@@ -45,9 +47,8 @@ pub fn recover(pool: &[u64], list: &mut [u64]) -> Result<Recovery, Refusal>
     if pairs == 0 {
         return Ok(Recovery::Clean);
     }
-    if !log_agrees(pool) {
-        return Err(Refusal::BadLog);
-    }
-    let events = finish_log(list, 0, pool, Pool::PAIRS_AT, pairs);
-    Ok(Recovery::Recovered(pairs, events))
+    let log = log_of(pool)?;
+    let mut list = EventList::new(list);
+    finish_log(&mut list, log);
+    Ok(Recovery::Recovered(pairs, list.events))
 }

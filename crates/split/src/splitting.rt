@@ -11,7 +11,7 @@ use crate::opening::Eight;
 use crate::rising::risen;
 use words::{EventList, Pool};
 
-// Plans a put into the full leaf path[0], whose slot word is w and where the key has its rank; the rest of the path are the nodes above it.
+// Plans a put into the full leaf that the path begins with, whose slot word is w and where the key has its rank. The nodes above follow.
 pub fn split_put(
     pool: &[u64],
     list: &mut EventList,

@@ -1,4 +1,4 @@
--- What the planning of a split hands on from call to call. The lent list is l before a call and l' after it, the pairs of the log g and g'.
+-- What the planning of a split hands on from call to call. The lent list is l before a call and l' after it, the log's pairs g and g'.
 use Rattle.std.specs.Prelude.{ℕ, ◌+◌, ◌-◌, ◌*◌, ◌≤◌, ◌≡◌, List, [], ◌∷◌, ◌++◌, Option, Some, None, true, length, get_or}
 use Rattle.words.specs.Pool as p
 use Rattle.words.specs.Event.{at}

@@ -1,5 +1,6 @@
 -- `pool::delete` meets its contract: each return goes by the tests before it.
 use borrow.Author.Rules.{rules}
+use native.Mathlib.Omega.{arith}
 use mathlib.Core.Path.{◌∙◌}
 use borrow.Author.Tests.{not-true, not-false}
 use Rattle.std.proofs.lemmas.Result.{err_from_is_err_and}
@@ -35,13 +36,15 @@ without_name-slot-requires c =
 pub node_at-requires : goal.node_at-requires
 node_at-requires c = (found_leaf c.in_ok-seat.ensures).named.inside.most
 
-pub write_once-events-requires : goal.write_once-events-requires
-write_once-events-requires c =
+pub once-requires : goal.once-requires
+once-requires c =
     let h = (found_leaf c.in_ok-seat.ensures).named.inside in
-    search rules
+    (omega (arith, c.new-list.ensures.events), omega (arith, c.node_at.ensures, h.most))
 
 pub returns : goal.returns
 returns c =
     let p = c.in_ok-seat.ensures in
     let e = delete_removed (found_leaf p) _ (not-false _ c.if-not-seat.false) c.node_at.ensures c.without_name-slot.ensures in
-    said answer_says (planned_answer _ _ _ (call_at _ _ _ _ c.in_ok-pass_list.ensures p ∙ e) c.write_once-events.ensures)
+    let n = c.new-list.ensures in
+    said answer_says
+    (planned_answer _ _ _ (call_at _ _ _ _ c.in_ok-pass_list.ensures p ∙ e) c.once.ensures n.list n.events (search rules))

@@ -1,4 +1,5 @@
 -- `pool::format` meets its contract: each return goes by the tests before it.
+use borrow.Author.Rules.{rules}
 use mathlib.Core.Path.{◌≡◌}
 use mathlib.Core.Bool.{true, false}
 use Rattle.std.proofs.Common.{arith}
@@ -30,4 +31,5 @@ pub returns : goal.returns
 returns c =
     let w : within 1 c.args.capacity capacity_most ≡ true = grind (arith, common_steps) in
     let e = format_planned _ _ _ c.in_ok-pass_list.ensures w (rw c.total_of.ensures at c.if-pool-total_of.false) in
-    said format_says (planned _ (λ events. events) _ e c.format_events.ensures)
+    let n = c.new-list.ensures in
+    said format_says (planned _ (λ events. events) _ e c.format_events.ensures n.list n.events (search rules))

@@ -1,4 +1,4 @@
--- `pool::fresh_leaf` meets its contract: seven calls, one after the other.
+-- Seven calls, one after the other.
 use Rattle.words.specs.Blocks.{lines}
 use Rattle.words.proofs.Written.{wrote_append}
 use Rattle.pool.proofs.formatting.fresh_leaf.Goals as goal
@@ -6,7 +6,6 @@ use Rattle.pool.proofs.formatting.fresh_leaf.Goals as goal
 pub returns : goal.returns
 unfolding lines
 returns c =
-    wrote_append c.write_store-n1.ensures (wrote_append c.write_store-n2.ensures (wrote_append c.write_store-n3.ensures
-    (wrote_append (rw c.line.ensures at c.write_flush-n4.ensures)
-    (wrote_append (rw c.line-2.ensures at c.write_flush-n5.ensures)
-    (wrote_append (rw c.line-3.ensures at c.write_flush-n6.ensures) c.write_fence.ensures)))))
+    wrote_append c.store.ensures (wrote_append c.store-2.ensures (wrote_append c.store-3.ensures
+    (wrote_append (rw c.line.ensures at c.flush.ensures) (wrote_append (rw c.line-2.ensures at c.flush-2.ensures)
+    (wrote_append (rw c.line-3.ensures at c.flush-3.ensures) c.fence.ensures)))))

@@ -1,17 +1,15 @@
 -- `pool::recover` meets its contract: each return goes by the tests before it.
-use mathlib.Core.Path.{◌≡◌, ◌∙◌, sym}
-use mathlib.Core.Bool.{true}
 use native.Mathlib.Omega.{arith}
+use borrow.Author.Rules.{rules}
 use Rattle.std.proofs.lemmas.Result.{err_from_is_err_and}
-use Rattle.tree.specs.Header.{commit_of, form_agrees}
+use Rattle.tree.specs.Header.{commit_of}
 use Rattle.tree.proofs.Form.{form}
 use Rattle.change.specs.declared.Recovery.TheVariants.{Recovered}
 use Rattle.change.specs.Answers.{recovery_says}
-use Rattle.change.specs.Recover.{log_agrees}
 use Rattle.pool.proofs.Planning.{said, quietly, planned}
-use Rattle.pool.proofs.Gates.{a_pool, long_list}
+use Rattle.pool.proofs.Gates.{a_pool}
 use Rattle.pool.proofs.Recovers.{recover_short, recover_no_pool, recover_clean, recover_bad_log, recover_done}
-use Rattle.pool.proofs.Recovers.{log_fits, log_near}
+use Rattle.pool.proofs.Recovers.{log_few, log_near}
 use Rattle.pool.proofs.recovering.recover.Goals as goal
 
 pub returns-in_err-pass_list : goal.returns-in_err-pass_list
@@ -31,27 +29,27 @@ pub returns-then-pairs-eq0 : goal.returns-then-pairs-eq0
 returns-then-pairs-eq0 c =
     said recovery_says (quietly _ _ _ (recover_clean _ _ c.in_ok-pass_list.ensures c.in_ok-pass_form.ensures c.if-pairs-eq0.true))
 
-pub log_agrees-requires : goal.log_agrees-requires
-log_agrees-requires c = (form _ (a_pool _ c.in_ok-pass_form.ensures)).least
+pub log_of-requires : goal.log_of-requires
+log_of-requires c = (form _ (a_pool _ c.in_ok-pass_form.ensures)).least
 
-pub returns-then-not-log_agrees : goal.returns-then-not-log_agrees
-returns-then-not-log_agrees c =
-    let bad = sym c.log_agrees.ensures ∙ c.if-not-log_agrees.true in
-    said recovery_says (quietly _ _ _ (recover_bad_log _ _ c.in_ok-pass_list.ensures c.in_ok-pass_form.ensures c.if-pairs-eq0.false bad))
+pub returns-in_err-log : goal.returns-in_err-log
+returns-in_err-log c =
+    let p = err_from_is_err_and c.from_residual-in_err-log.result c.from_residual-in_err-log.ensures.1 in
+    let bad = c.in_err-log.ensures in
+    let e = recover_bad_log _ _ c.in_ok-pass_list.ensures c.in_ok-pass_form.ensures c.if-pairs-eq0.false bad.0 in
+    rw (p.1, p.2, bad.1) (said recovery_says (quietly _ _ _ e))
 
-pub finish_log-events-requires : goal.finish_log-events-requires
-finish_log-events-requires c =
-    let is_pool : form_agrees c.args.pool.now ≡ true = a_pool _ c.in_ok-pass_form.ensures in
-    let log_ok : log_agrees c.args.pool.now ≡ true = sym c.log_agrees.ensures ∙ c.if-not-log_agrees.false in
-    let long = long_list _ c.in_ok-pass_list.ensures in
-    let h = log_fits _ is_pool log_ok in
-    record {
-      c_le_pairs_most = (h.0, omega arith, omega arith);
-      first_le_pairs_at = (omega arith, h.1, log_near _ is_pool log_ok);
-    }
+pub finish_log-requires : goal.finish_log-requires
+finish_log-requires c =
+    let q = c.in_ok-log.ensures in
+    let qs = c.in_ok-log.log.now in
+    let formed = a_pool _ c.in_ok-pass_form.ensures in
+    (omega (arith, c.new-list.ensures.events, log_few _ qs q.0 q.1), log_near _ qs q.0 q.1 formed)
 
 pub returns : goal.returns
 returns c =
-    let log_ok : log_agrees c.args.pool.now ≡ true = sym c.log_agrees.ensures ∙ c.if-not-log_agrees.false in
-    let e = recover_done _ _ c.in_ok-pass_list.ensures c.in_ok-pass_form.ensures c.if-pairs-eq0.false log_ok in
-    said recovery_says (planned _ (Recovered (commit_of c.args.pool.now)) _ e c.finish_log-events.ensures)
+    let q = c.in_ok-log.ensures in
+    let e = recover_done _ _ c.in_ok-pass_list.ensures c.in_ok-pass_form.ensures c.if-pairs-eq0.false q.0 in
+    let n = c.new-list.ensures in
+    said recovery_says
+    (planned _ (Recovered (commit_of c.args.pool.now)) _ e (rw q.1 at c.finish_log.ensures) n.list n.events (search rules))
