@@ -20,8 +20,8 @@ use Rattle.change.specs.declared.Request.TheVariants.{Put, Delete}
 use Rattle.change.specs.Check.{refuse, check_past_gate, walked}
 use Rattle.change.specs.Calls as calls
 use Rattle.change.proofs.ConditionsCalls.{format_numbers, recover_numbers, fetch_numbers, put_numbers, delete_numbers}
-use Rattle.change.proofs.ConditionsCalls.{check_numbers}
 use Rattle.change.proofs.Conditions.{carry_numbers}
+use Rattle.change.proofs.ConditionsCalls.{check_numbers}
 use Rattle.change.proofs.Refused.{format_kept, recover_kept, serve_kept}
 use Rattle.pool.specs.Demand1.{Demand1}
 

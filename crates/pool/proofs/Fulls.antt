@@ -12,6 +12,7 @@ use Rattle.words.specs.Pool as p
 use Rattle.words.specs.Event.{at}
 use Rattle.words.specs.declared.refusal.Refusal.TheVariants.{Damaged, NoRoom}
 use Rattle.node.specs.Lists.{has}
+use Rattle.node.specs.Slot.{count, entries}
 use Rattle.node.specs.View.{view, keys, no_end}
 use Rattle.node.proofs.Slots.{length_names}
 use Rattle.tree.specs.Header.{capacity_of, used_of, height_of, counts_agree}
@@ -21,12 +22,13 @@ use Rattle.tree.specs.declared.descend.Seat.{Seat}
 use Rattle.tree.specs.inner.Descended.{above_of, Seated, Pathed}
 use Rattle.tree.proofs.Form.{counts}
 use Rattle.tree.proofs.Path.{way_to_counts}
-use Rattle.tree.proofs.Leaves.{AtLeaf, at_leaf}
+use Rattle.tree.proofs.Leaves.{AtLeaf, at_leaf as leaf_found}
 use Rattle.change.specs.declared.Outcome.TheVariants.{New}
 use Rattle.change.specs.Gate.{refused}
 use Rattle.change.specs.Steps.{full}
 use Rattle.change.specs.Plan.{plan_events}
 use Rattle.change.specs.Put.{needed, split, put_at}
+use Rattle.pool.specs.inner.Passing.{Admitted}
 use Rattle.pool.specs.inner.Puts.{Full, put_there}
 use Rattle.split.specs.inner.Opened.{Met}
 use Rattle.split.specs.inner.Splitting.{ToSplit}
@@ -37,7 +39,24 @@ path_is : (path : List ℕ) (n k : ℕ) → length path ≡ 8 → get_or path 0 
 path_is [] n k long e = absurd (omega arith)
 path_is (x ∷ ps) n k long e = rw e
 
-module _ {m : List ℕ} {key : ℕ} {s : Seat} (f : Full m key s) where
+-- the leaf of a seat that is full and has not the key
+pub full_at : {m : List ℕ} {key : ℕ} {s : Seat} → Admitted m key s → s.there ≡ false → count s.slot ≡ entries → Full m key s.slot s.rank
+full_at {s = s} p absent full =
+    let w = p.seated in
+    record {
+      leaf = s.leaf;
+      admitted = record {
+        form_is = p.form_is;
+        finished = p.finished;
+        seated = record { way_is = w.way_is; slot_is = w.slot_is; rank_is = w.rank_is; there_is = sym absent ∙ w.there_is };
+      };
+      full = full;
+    }
+
+module _ {m : List ℕ} {key slot rank : ℕ} (f : Full m key slot rank) where
+  abbrev s : Seat
+  s = record { leaf = f.leaf; slot = slot; rank = rank; there = false }
+
   abbrev above : List ℕ
   above = above_of (way_to m key)
 
@@ -45,16 +64,16 @@ module _ {m : List ℕ} {key : ℕ} {s : Seat} (f : Full m key s) where
   seated = f.admitted.seated
 
   pub leaf_there : AtLeaf m key s
-  leaf_there = at_leaf m key s f.admitted.form_is seated
+  leaf_there = leaf_found m key s f.admitted.form_is seated
 
   pub counts_hold : counts_agree m ≡ true
   counts_hold = way_to_counts m key seated.way_is
 
   pub absent_is : has key (keys (view m s.leaf).records) ≡ false
-  absent_is = sym seated.there_is ∙ f.absent
+  absent_is = sym seated.there_is
 
   pub full_is : full (view m s.leaf) ≡ true
-  full_is = eq-eqb _ _ (ap length leaf_there.names_are ∙ length_names s.slot ∙ f.full)
+  full_is = eq-eqb _ _ (ap length leaf_there.names_are ∙ length_names slot ∙ f.full)
 
   -- the levels of the path, the leaf's and those above
   module _ {path : List ℕ} (q : Pathed m key path) where
@@ -84,7 +103,7 @@ module _ {m : List ℕ} {key : ℕ} {s : Seat} (f : Full m key s) where
       needed_is = counted ∙ rw taken_are refl
 
       pub to_split : ((i : ℕ) → at m i < no_end) → n ≤ p.height_most → n ≤ capacity_of m - used_of m
-          → ToSplit m (take (height_of m) path) s key
+          → ToSplit m (take (height_of m) path) slot rank key
       to_split words few free =
           let c = counts m counts_hold in
           record {
@@ -93,29 +112,28 @@ module _ {m : List ℕ} {key : ℕ} {s : Seat} (f : Full m key s) where
             high = omega (arith, path_long, c.height.1);
             some = omega (arith, path_long, c.height.0);
             nodes = path_met words;
-            leaf_is = rw taken_are refl;
-            slot_is = seated.slot_is;
-            full_is = full_is;
-            rank_is = seated.rank_is;
+            slot_is = seated.slot_is ∙ rw taken_are refl;
+            full_is = rw taken_are full_is;
+            rank_is = seated.rank_is ∙ rw taken_are refl;
             need = rw (← counted) few;
             free = rw (← counted) free;
           }
 
       -- the returns: too few nodes, too many levels, or split
       module _ (value : ℕ) where
-        pub full_crowded : capacity_of m - used_of m < n → put_there m key value s ≡ refused NoRoom
+        pub full_crowded : capacity_of m - used_of m < n → put_there m key value ≡ refused NoRoom
         unfolding put_at
-        full_crowded h = rw (absent_is, full_is, lt-ltb _ _ (rw needed_is at h))
+        full_crowded h = rw (seated.way_is, absent_is, full_is, lt-ltb _ _ (rw needed_is at h))
 
-        pub full_high : n ≤ capacity_of m - used_of m → p.height_most < n → put_there m key value s ≡ refused Damaged
+        pub full_high : n ≤ capacity_of m - used_of m → p.height_most < n → put_there m key value ≡ refused Damaged
         unfolding put_at
-        full_high h k = rw (absent_is, full_is, le-ltb _ _ (rw needed_is at h), lt-ltb _ _ (rw needed_is at k))
+        full_high h k = rw (seated.way_is, absent_is, full_is, le-ltb _ _ (rw needed_is at h), lt-ltb _ _ (rw needed_is at k))
 
         pub full_split : n ≤ capacity_of m - used_of m → n ≤ p.height_most
-            → put_there m key value s ≡ record {
+            → put_there m key value ≡ record {
               answer = Ok New;
-              events = plan_events (split m s.leaf (drop 1 (take (height_of m) path)) (key, value));
+              events = plan_events (split m (get_or (take (height_of m) path) 0 0) (drop 1 (take (height_of m) path)) (key, value));
             }
         unfolding put_at
         full_split h k =
-            rw (taken_are, absent_is, full_is, le-ltb _ _ (rw needed_is at h), le-ltb _ _ (rw needed_is at k))
+            rw (taken_are, seated.way_is, absent_is, full_is, le-ltb _ _ (rw needed_is at h), le-ltb _ _ (rw needed_is at k))

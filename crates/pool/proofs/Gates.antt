@@ -1,10 +1,10 @@
 -- The refusals that stand before every body, test by test.
-use Prim.Native.Nat.{ℕ, ◌≤◌}
+use Prim.Native.Nat.{ℕ}
 use mathlib.Core.Path.{◌≡◌, refl, sym, ◌∙◌, ap}
 use mathlib.Core.List.{List}
 use mathlib.Core.Bool.{Bool, true, false, not}
 use lib.Dec.{ltb, eqb}
-use borrow.Author.Tests.{ltb-false, eq-eqb, eqb-true, not-false}
+use borrow.Author.Tests.{eq-eqb, eqb-true, not-false}
 use Rattle.std.specs.Prelude.{if◌then◌else◌, Result, Ok, Err}
 use Rattle.words.specs.Pool.{list_words}
 use Rattle.words.specs.declared.refusal.Refusal.{Refusal}
@@ -35,9 +35,6 @@ gate_test m = past_gate Err m (Ok tt)
 test_holds : (b : Bool) (why : Refusal) (r : Passing) {u : Unit {0}} → Ok u ≡ (if b then Err why else r) → (b ≡ false) × (Ok u ≡ r)
 test_holds true why r e = cc
 test_holds false why r e = (refl, e)
-
-pub long_list : (room : ℕ) {u : Unit {0}} → Ok u ≡ list_test room → list_words ≤ room
-long_list room e = ltb-false room list_words (test_holds (ltb room list_words) ShortList (Ok tt) e).0
 
 pub a_pool : (m : List ℕ) {u : Unit {0}} → Ok u ≡ form_test m → form_agrees m ≡ true
 a_pool m e = not-false (form_agrees m) (test_holds (not (form_agrees m)) NoPool (Ok tt) e).0

@@ -23,7 +23,7 @@ use Rattle.tree.proofs.Leaves.{AtLeaf}
 use Rattle.change.specs.declared.Outcome.TheVariants.{New, Replaced}
 use Rattle.change.specs.Put.{replace_events, fill_events, put_at}
 use Rattle.change.proofs.Lines.{entry_stored}
-use Rattle.pool.specs.inner.Puts.{Says}
+use Rattle.pool.specs.inner.Puts.{Says, put_there}
 
 -- the entry of a place that a slot word names
 pub entry_low : (w place : ℕ) {e : ℕ} → (place < count w) × (count w ≤ entries) × (all_below entries (names w) ≡ true)
@@ -50,13 +50,14 @@ module _ {m : List ℕ} {key : ℕ} {s : Seat} (a : AtLeaf m key s) where
   named_count : length u.named ≡ count s.slot
   named_count = ap length a.names_are ∙ length_names s.slot
 
-  module _ (value : ℕ) (above : List ℕ) where
+  module _ (value : ℕ) where
     pub put_present : s.there ≡ true
-        → put_at m key value s.leaf above ≡ record { answer = Ok Replaced; events = replace_events s.leaf u (key, value) }
+        → put_there m key value ≡ record { answer = Ok Replaced; events = replace_events s.leaf u (key, value) }
     unfolding put_at
-    put_present t = rw (sym a.seated.there_is ∙ t)
+    put_present t = rw (a.seated.way_is, sym a.seated.there_is ∙ t)
 
     pub put_room : s.there ≡ false → count s.slot < entries
-        → put_at m key value s.leaf above ≡ record { answer = Ok New; events = fill_events s.leaf u (key, value) }
+        → put_there m key value ≡ record { answer = Ok New; events = fill_events s.leaf u (key, value) }
     unfolding put_at
-    put_room t h = rw (sym a.seated.there_is ∙ t, ne_eqb (length u.named) entries (λ e. omega (arith, named_count)))
+    put_room t h =
+        rw (a.seated.way_is, sym a.seated.there_is ∙ t, ne_eqb (length u.named) entries (λ e. omega (arith, named_count)))

@@ -52,8 +52,8 @@ fn put_at(
     value: u64,
 ) -> Result<Answer, Refusal>
     requires { Admitted pool.now key seat × (p.list_words ≤ length list.old) }
-    ensures answer { result ≡ answered (put_there pool.now key value seat) }
-    ensures list { list.new ≡ list_after (put_there pool.now key value seat) list.old }
+    ensures answer { result ≡ answered (put_there pool.now key value) }
+    ensures list { list.new ≡ list_after (put_there pool.now key value) list.old }
 {
     if seat.there {
         let mut list = EventList::new(list);
@@ -71,7 +71,7 @@ fn put_at(
             events: list.events,
         });
     }
-    let events = put_full(pool, list, &seat, key, value)?;
+    let events = put_full(pool, list, seat.slot, seat.rank, key, value)?;
     Ok(Answer {
         outcome: Outcome::New,
         events,

@@ -119,14 +119,16 @@ module _ {m : List ℕ} {k r ns e : ℕ} (x : Record) (o : Opened m k r ns e x.0
       (sym (beside (entry m k) r x e (view m k).named i (0, 0) low ne (omega (arith, length_seven))))
 
   pub spot_low : e < entries
-  spot_low = rw o.spot_is
-      (spot_below (take (lower - 1) (view m k).named) (rw (length-take-le (lower - 1) (view m k).named (omega (arith, length_seven))) (omega arith)))
+  spot_low =
+      let three = length-take-le (lower - 1) (view m k).named (omega (arith, length_seven)) in
+      rw o.spot_is (spot_below (take (lower - 1) (view m k).named) (rw three (omega arith)))
 
   pub name_low : (i : ℕ) → i < 8 → get_or (bytes 8 ns) i 0 < entries
   name_low i h =
-      let low : all_below entries (insert r e (view m k).named) ≡ true =
-      rw (below_insert entries r e (view m k).named, lt-ltb e entries spot_low) (parts o.met).names_low in
-      rw o.names_are (below_at entries i (insert r e (view m k).named) low (rw (length_insert r e (view m k).named) (omega (arith, length_seven))))
+      let own = (view m k).named in
+      let low : all_below entries (insert r e own) ≡ true =
+      rw (below_insert entries r e own, lt-ltb e entries spot_low) (parts o.met).names_low in
+      rw o.names_are (below_at entries i (insert r e own) low (rw (length_insert r e own) (omega (arith, length_seven))))
 
   -- the slot word of the lower four
   pub slot_lower : slot (bytes lower ns) ≡ lower_slot (view m k) x.0

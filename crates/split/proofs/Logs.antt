@@ -64,13 +64,17 @@ module _ (qs : List (List ℕ)) (i : ℕ) (h : length qs ≤ i) where
 pub flush_end : (v n i : ℕ) → n ≤ i → flushes (count_from v (n - i)) ≡ []
 flush_end v n i h = rw (over n i h)
 
--- how many events each writes
-pub length_log_stores : (qs : List (List ℕ)) → length (stores (log_words pairs_at (pairs_of qs))) ≡ 2 * length qs
-length_log_stores qs =
-    length_stores (log_words pairs_at (pairs_of qs)) ∙ length_log pairs_at (pairs_of qs) ∙ rw (length_pairs qs)
+-- how many events there are after each
+module _ (qs : List (List ℕ)) {l l₁ : EventList} (a : Wrote (stores (log_words pairs_at (pairs_of qs))) l l₁) where
+  pub stored_events : l₁.events ≡ l.events + 2 * length qs
+  stored_events =
+      let ps = pairs_of qs in
+      omega (arith, a.next, length_stores (log_words pairs_at ps), length_log pairs_at ps, length_pairs qs)
 
-pub length_log_flushes : (n : ℕ) → length (flushes (count_from (line log_at) n)) ≡ n
-length_log_flushes n = length_flushes (count_from (line log_at) n) ∙ length_from (line log_at) n
+  pub flushed_events : (n : ℕ) {l₂ : EventList} → Wrote (flushes (count_from (line log_at) n)) l₁ l₂
+      → l₂.events ≡ l.events + 2 * length qs + n
+  flushed_events n b =
+      omega (arith, stored_events, b.next, length_flushes (count_from (line log_at) n), length_from (line log_at) n)
 
 module _ (ps : List Pair) where
   pub finished : {l l₁ l₂ l₃ : EventList} → Wrote (replay ps) l l₁ → Wrote (fence ∷ []) l₁ l₂ → Wrote (once commit_at 0) l₂ l₃

@@ -1,6 +1,6 @@
 -- Loops that write: what is left of their events.
 use Prim.Native.Nat.{◌+◌}
-use mathlib.Core.Path.{◌≡◌, refl, ◌∙◌}
+use mathlib.Core.Path.{◌≡◌, ◌∙◌}
 use mathlib.Core.List.{List, [], ◌++◌}
 use native.Mathlib.Omega.{arith}
 use lib.ListN.{length, length-append}
@@ -14,9 +14,6 @@ pub record Left (es : List Event) (a : EventList) (fs : List Event) (b : EventLi
   pub same : b.words.ghost_name ≡ a.words.ghost_name
   pub count : b.events + length fs ≡ a.events + length es
   pub list : written fs b.events b.words.now ≡ written es a.events a.words.now
-
-pub left_all : {es : List Event} {a : EventList} → Left es a es a
-left_all = record { same = refl; count = refl; list = refl }
 
 pub left_on : {es fs gs : List Event} {a b c : EventList} → Left es a (gs ++ fs) b → Wrote gs b c → Left es a fs c
 left_on {fs = fs} {gs} {b = b} l w = record {

@@ -13,7 +13,6 @@ use Rattle.words.specs.Written.{Wrote}
 use Rattle.words.proofs.Written.{wrote_append}
 use Rattle.node.specs.View.{Record, view, link_at}
 use Rattle.tree.specs.Header.{used_of, height_of}
-use Rattle.tree.specs.declared.descend.Seat.{Seat}
 use Rattle.tree.specs.Halves.{lower, fifth, supply}
 use Rattle.tree.proofs.Form.{form, counts}
 use Rattle.change.specs.Steps.{full}
@@ -104,15 +103,15 @@ module _ {m above : List ℕ} {k i : ℕ} {l : EventList} {g : List Pair} (rd : 
     }
 
 -- a put into a full leaf
-module _ {m path : List ℕ} {s : Seat} {key : ℕ} (sp : ToSplit m path s key) where
+module _ {m path : List ℕ} {w rank key : ℕ} (sp : ToSplit m path w rank key) where
   abbrev leaf : ℕ
-  leaf = s.leaf
+  leaf = get_or path 0 0
 
   abbrev above : List ℕ
   above = rest_of path
 
   whole : path ≡ leaf ∷ above
-  whole = rw sp.leaf_is (some_levels path sp.some)
+  whole = some_levels path sp.some
 
   needs : needed m path ≡ suc (needed m above)
   needs = ap (needed m) whole ∙ needed_full m leaf above sp.full_is

@@ -5,6 +5,5 @@ mod building;
 mod halving;
 pub mod logging;
 mod opening;
-mod ranking;
 pub mod rising;
 pub mod splitting;

@@ -14,8 +14,7 @@ ghost use Rattle.split.specs.inner.Splitting.{Room, parent_pairs, new_root, Done
 use crate::building::new_root;
 use crate::halving::split_inner;
 use crate::logging::Log;
-use crate::opening::Eight;
-use crate::ranking::rank_of;
+use crate::opening::{Eight, rank_of};
 use node::Node;
 use node::slot::{count, spot, with_name};
 use words::{EventList, Pool};

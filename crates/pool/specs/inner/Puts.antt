@@ -6,12 +6,11 @@ use Rattle.words.specs.Written.{Wrote}
 use Rattle.node.specs.Slot.{count, names, entries}
 use Rattle.node.specs.View.{Record, View, rank}
 use Rattle.tree.specs.Path.{way_to}
-use Rattle.tree.specs.inner.Descended.{above_of}
 use Rattle.tree.specs.declared.descend.Seat.{Seat}
 use Rattle.change.specs.declared.Answer.{Answer}
 use Rattle.change.specs.declared.Outcome.{Outcome}
 use Rattle.change.specs.declared.Outcome.TheVariants.{New}
-use Rattle.change.specs.Gate.{Planned}
+use Rattle.change.specs.Gate.{Planned, at_leaf}
 use Rattle.change.specs.Put.{replace_events, fill_events, put_at}
 use Rattle.pool.specs.inner.Passing.{Admitted}
 
@@ -28,16 +27,11 @@ Replaces s value l l' = (u : View) (key : ℕ) → Says u key s → Wrote (repla
 abbrev pub Fills : Seat → Record → EventList → EventList → Type 0
 Fills s x l l' = (u : View) → Says u x.0 s → Wrote (fill_events s.leaf u x) l l'
 
--- a step handed the list l answered what is planned, and wrote its events
-pub record Plans (p : Planned Outcome) (r : Result Outcome Refusal) (l l' : EventList) : Type 0 where
-  pub answer : r ≡ p.answer
-  pub wrote : Wrote p.events l l'
-
--- the way down to a key found its leaf, which is full and has not the key
-pub record Full (m : List ℕ) (key : ℕ) (s : Seat) : Type 0 where
-  pub admitted : Admitted m key s
-  pub absent : s.there ≡ false
-  pub full : count s.slot ≡ entries
+-- the way down to a key found its leaf, which is full and has not the key: its slot word, and the key's rank
+pub record Full (m : List ℕ) (key slot rank : ℕ) : Type 0 where
+  pub leaf : ℕ
+  pub admitted : Admitted m key (record { leaf = leaf; slot = slot; rank = rank; there = false })
+  pub full : count slot ≡ entries
 
 -- a new record, with its event count
 abbrev pub new_with : Result ℕ Refusal → Result Answer Refusal
@@ -45,5 +39,5 @@ new_with (Ok n) = Ok (record { outcome = New; events = n })
 new_with (Err why) = Err why
 
 -- what a put does at the leaf
-abbrev pub put_there : List ℕ → ℕ → ℕ → Seat → Planned Outcome
-put_there m key value s = put_at m key value s.leaf (above_of (way_to m key))
+abbrev pub put_there : List ℕ → ℕ → ℕ → Planned Outcome
+put_there m key value = at_leaf (put_at m key value) (way_to m key)

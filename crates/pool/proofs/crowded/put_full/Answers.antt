@@ -3,7 +3,7 @@ use mathlib.Core.Path.{sym}
 use borrow.Author.Rules.{rules}
 use native.Mathlib.Omega.{arith}
 use Rattle.tree.proofs.Form.{counts}
-use Rattle.pool.proofs.Planning.{quiet_answer, plans, planned_answer}
+use Rattle.pool.proofs.Planning.{quiet_answer, planned_answer}
 use Rattle.pool.proofs.Fulls.{counts_hold, path_met, path_long, to_split, full_crowded, full_high, full_split}
 use Rattle.pool.proofs.crowded.put_full.Goals as goal
 
@@ -46,5 +46,5 @@ returns c =
     let e = full_split c.requires.0 c.path_to-path.ensures c.nodes_needed-needed.ensures.0 _ c.if-pool-needed.false
     c.if-needed-gt-HEIGHT_MOST.false in
     let n = c.new-list.ensures in
-    let both = planned_answer _ (plans _ e c.split_put.ensures) n.list n.events (search rules) in
+    let both = planned_answer _ _ _ e c.split_put.ensures n.list n.events (search rules) in
     record { answer = both.0; list = both.1 }

@@ -6,7 +6,7 @@ use borrow.Author.Tests.{not-true, not-false}
 use Rattle.std.proofs.lemmas.Result.{err_from_is_err_and}
 use Rattle.tree.proofs.Leaves.{rank_there}
 use Rattle.change.specs.Answers.{answer_says}
-use Rattle.pool.proofs.Planning.{said, quiet_answer, plans, planned_answer}
+use Rattle.pool.proofs.Planning.{said, quiet_answer, planned_answer}
 use Rattle.pool.proofs.Gates.{found_leaf, call_short, call_shut, call_at}
 use Rattle.pool.proofs.Deletes.{delete_absent, delete_removed}
 use Rattle.pool.proofs.deleting.delete.Goals as goal
@@ -46,5 +46,5 @@ returns c =
     let p = c.in_ok-seat.ensures in
     let e = delete_removed (found_leaf p) _ (not-false _ c.if-not-seat.false) c.node_at.ensures c.without_name-slot.ensures in
     let n = c.new-list.ensures in
-    said answer_says (planned_answer _ (plans _ (call_at _ _ _ _ c.in_ok-pass_list.ensures p ∙ e) c.once.ensures) n.list n.events
-    (search rules))
+    said answer_says
+    (planned_answer _ _ _ (call_at _ _ _ _ c.in_ok-pass_list.ensures p ∙ e) c.once.ensures n.list n.events (search rules))

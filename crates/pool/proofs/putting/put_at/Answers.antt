@@ -2,8 +2,9 @@
 use native.Mathlib.Omega.{arith}
 use borrow.Author.Rules.{rules}
 use Rattle.tree.proofs.Leaves.{rank_there, rank_few}
-use Rattle.pool.proofs.Planning.{plans, planned_answer}
+use Rattle.pool.proofs.Planning.{planned_answer}
 use Rattle.pool.proofs.Gates.{found_leaf}
+use Rattle.pool.proofs.Fulls.{full_at}
 use Rattle.pool.proofs.Puts.{leaf_says, put_present, put_room}
 use Rattle.pool.proofs.putting.put_at.Goals as goal
 
@@ -19,8 +20,8 @@ pub returns-then-seat : goal.returns-then-seat
 returns-then-seat c =
     let a = found_leaf c.requires.0 in
     let n = c.new-list.ensures in
-    let p = plans _ (put_present a _ _ c.if-seat.true) (c.replace.ensures _ _ (leaf_says a)) in
-    let both = planned_answer _ p n.list n.events (search rules) in
+    let e = put_present a _ c.if-seat.true in
+    let both = planned_answer _ _ _ e (c.replace.ensures _ _ (leaf_says a)) n.list n.events (search rules) in
     record { answer = both.0; list = both.1 }
 
 pub fill-requires : goal.fill-requires
@@ -32,11 +33,11 @@ pub returns-then-count-lt-ENTRIES : goal.returns-then-count-lt-ENTRIES
 returns-then-count-lt-ENTRIES c =
     let a = found_leaf c.requires.0 in
     let n = c.new-list-then-count-lt-ENTRIES.ensures in
-    let p = plans _ (put_room a _ _ c.if-seat.false (omega arith)) (c.fill.ensures _ (leaf_says a)) in
-    let both = planned_answer _ p n.list n.events (search rules) in
+    let e = put_room a _ c.if-seat.false (omega arith) in
+    let both = planned_answer _ _ _ e (c.fill.ensures _ (leaf_says a)) n.list n.events (search rules) in
     record { answer = both.0; list = both.1 }
 
 pub put_full-requires : goal.put_full-requires
 put_full-requires c =
     let a = found_leaf c.requires.0 in
-    (record { admitted = c.requires.0; absent = c.if-seat.false; full = omega (arith, a.named.few) }, c.requires.1)
+    (full_at c.requires.0 c.if-seat.false (omega (arith, a.named.few)), c.requires.1)

@@ -36,13 +36,15 @@ pub returns-in_err-log : goal.returns-in_err-log
 returns-in_err-log c =
     let p = err_from_is_err_and c.from_residual-in_err-log.result c.from_residual-in_err-log.ensures.1 in
     let bad = c.in_err-log.ensures in
-    rw (p.1, p.2, bad.1)
-    (said recovery_says (quietly _ _ _ (recover_bad_log _ _ c.in_ok-pass_list.ensures c.in_ok-pass_form.ensures c.if-pairs-eq0.false bad.0)))
+    let e = recover_bad_log _ _ c.in_ok-pass_list.ensures c.in_ok-pass_form.ensures c.if-pairs-eq0.false bad.0 in
+    rw (p.1, p.2, bad.1) (said recovery_says (quietly _ _ _ e))
 
 pub finish_log-requires : goal.finish_log-requires
 finish_log-requires c =
     let q = c.in_ok-log.ensures in
-    (omega (arith, c.new-list.ensures.events, log_few _ c.in_ok-log.log.now q.0 q.1), log_near _ c.in_ok-log.log.now q.0 q.1 (a_pool _ c.in_ok-pass_form.ensures))
+    let qs = c.in_ok-log.log.now in
+    let formed = a_pool _ c.in_ok-pass_form.ensures in
+    (omega (arith, c.new-list.ensures.events, log_few _ qs q.0 q.1), log_near _ qs q.0 q.1 formed)
 
 pub returns : goal.returns
 returns c =

@@ -1,15 +1,11 @@
 -- A loop over the places, two stores a turn.
 use Prim.Native.Nat.{◌-◌}
-use native.Mathlib.Nat.{sub_self}
 use native.Mathlib.Omega.{arith}
 use Rattle.split.specs.inner.Splitting.{eight_of}
-use Rattle.split.proofs.Loops.{left_all, left_on, left_none}
+use Rattle.split.proofs.Loops.{left_on, left_none}
 use Rattle.split.proofs.Eights.{opened_eight}
 use Rattle.split.proofs.Builds.{upper_turn, upper_end}
 use Rattle.split.proofs.building.write_upper.Goals as goal
-
-pub loop-i-init : goal.loop-i-init
-loop-i-init c = (omega arith, rw sub_self left_all)
 
 pub loop-i-preserved : goal.loop-i-preserved
 loop-i-preserved c =

@@ -17,7 +17,8 @@ returns-then-count-eq-ENTRIES t c =
     let ks = c.args.levels.now in
     let split = some_levels ks c.in-len1-up.len_at_least in
     let t = met_full (rw split at c.requires.1).0 (rw c.node_at.ensures at (sym c.count.ensures ∙ c.if-count-eq-ENTRIES.true)) in
-    (omega (arith, c.nodes_needed.ensures.0, ap (needed m) split, needed_full m (first_of ks) (rest_of ks) t), omega (arith, c.nodes_needed.ensures.1))
+    let n = c.nodes_needed.ensures in
+    (omega (arith, n.0, ap (needed m) split, needed_full m (first_of ks) (rest_of ks) t), omega (arith, n.1))
 
 pub returns-else-count-eq-ENTRIES : goal.returns-else-count-eq-ENTRIES
 returns-else-count-eq-ENTRIES t c =

@@ -2,7 +2,7 @@
 use native.Mathlib.Omega.{arith}
 use Rattle.change.specs.Put.{split}
 use Rattle.split.proofs.Eights.{full_count}
-use Rattle.split.proofs.Splits.{rest_of, rest_is}
+use Rattle.split.proofs.Splits.{first_of, rest_of, rest_is}
 use Rattle.split.proofs.Splits.{split_counts, leaf_met, leaf_room, leaf_ready, leaf_done, planned_few, done_room, plan_written}
 use Rattle.split.proofs.splitting.split_put.Goals as goal
 
@@ -29,7 +29,7 @@ write-requires c =
     let e = c.of-eight.ensures in
     let v = rw (e.0, e.1, e.2, c.new-log.ensures) at c.split_leaf-up.ensures in
     let few = planned_few c.requires.0 a.new in
-    done_room (split a.pool.now a.seat.now.leaf (rest_of a.path.now) a.new) (leaf_done c.requires.0 a.new v c.risen.ensures)
+    done_room (split a.pool.now (first_of a.path.now) (rest_of a.path.now) a.new) (leaf_done c.requires.0 a.new v c.risen.ensures)
     c.requires.1 few.0 few.2
 
 pub returns : goal.returns
@@ -38,5 +38,5 @@ returns c =
     let e = c.of-eight.ensures in
     let v = rw (e.0, e.1, e.2, c.new-log.ensures) at c.split_leaf-up.ensures in
     rw (← rest_is a.path.now)
-    (plan_written (split a.pool.now a.seat.now.leaf (rest_of a.path.now) a.new) (leaf_done c.requires.0 a.new v c.risen.ensures)
+    (plan_written (split a.pool.now (first_of a.path.now) (rest_of a.path.now) a.new) (leaf_done c.requires.0 a.new v c.risen.ensures)
     c.write.ensures)

@@ -2,7 +2,7 @@
 use Rattle.node.proofs.Ends.{seen_good}
 use Rattle.node.proofs.Views.{good_parts, good_sound}
 use Rattle.node.specs.View.{view}
-use Rattle.split.proofs.ranking.rank_of.Goals as goal
+use Rattle.split.proofs.opening.rank_of.Goals as goal
 
 pub unwrap-seen-requires : goal.unwrap-seen-requires
 unwrap-seen-requires c =
