@@ -40,11 +40,12 @@ path_is [] n k long e = absurd (omega arith)
 path_is (x ∷ ps) n k long e = rw e
 
 -- the leaf of a seat that is full and has not the key
-pub full_at : {m : List ℕ} {key : ℕ} {s : Seat} → Admitted m key s → s.there ≡ false → count s.slot ≡ entries → Full m key s.slot s.rank
+pub full_at : {m : List ℕ} {key : ℕ} {s : Seat} → Admitted m key s → s.there ≡ false → count s.slot ≡ entries → Full m key s.rank
 full_at {s = s} p absent full =
     let w = p.seated in
     record {
       leaf = s.leaf;
+      slot = s.slot;
       admitted = record {
         form_is = p.form_is;
         finished = p.finished;
@@ -53,9 +54,9 @@ full_at {s = s} p absent full =
       full = full;
     }
 
-module _ {m : List ℕ} {key slot rank : ℕ} (f : Full m key slot rank) where
+module _ {m : List ℕ} {key rank : ℕ} (f : Full m key rank) where
   abbrev s : Seat
-  s = record { leaf = f.leaf; slot = slot; rank = rank; there = false }
+  s = record { leaf = f.leaf; slot = f.slot; rank = rank; there = false }
 
   abbrev above : List ℕ
   above = above_of (way_to m key)
@@ -73,7 +74,7 @@ module _ {m : List ℕ} {key slot rank : ℕ} (f : Full m key slot rank) where
   absent_is = sym seated.there_is
 
   pub full_is : full (view m s.leaf) ≡ true
-  full_is = eq-eqb _ _ (ap length leaf_there.names_are ∙ length_names slot ∙ f.full)
+  full_is = eq-eqb _ _ (ap length leaf_there.names_are ∙ length_names f.slot ∙ f.full)
 
   -- the levels of the path, the leaf's and those above
   module _ {path : List ℕ} (q : Pathed m key path) where
@@ -103,7 +104,7 @@ module _ {m : List ℕ} {key slot rank : ℕ} (f : Full m key slot rank) where
       needed_is = counted ∙ rw taken_are refl
 
       pub to_split : ((i : ℕ) → at m i < no_end) → n ≤ p.height_most → n ≤ capacity_of m - used_of m
-          → ToSplit m (take (height_of m) path) slot rank key
+          → ToSplit m (take (height_of m) path) rank key
       to_split words few free =
           let c = counts m counts_hold in
           record {
@@ -112,7 +113,6 @@ module _ {m : List ℕ} {key slot rank : ℕ} (f : Full m key slot rank) where
             high = omega (arith, path_long, c.height.1);
             some = omega (arith, path_long, c.height.0);
             nodes = path_met words;
-            slot_is = seated.slot_is ∙ rw taken_are refl;
             full_is = rw taken_are full_is;
             rank_is = seated.rank_is ∙ rw taken_are refl;
             need = rw (← counted) few;

@@ -9,19 +9,18 @@ use split::splitting::split_put;
 use tree::pathing::path_to;
 use words::{EventList, Pool, Refusal};
 
-// The key's leaf is full and has not the key: its slot word, and the key's rank. The nodes are counted before anything is written.
-// It answers the number of events. A split is rare: apart, and with numbers in place of a seat and an answer in memory, it costs the
-// other puts nothing.
+// The key's leaf is full and has not the key, whose rank there is handed on. The nodes are counted before anything is written. It
+// answers the number of events. A split is rare: apart, and with numbers in place of a seat and an answer in memory, it costs the other
+// puts nothing.
 #[cold]
 pub fn put_full(
     pool: &[u64],
     list: &mut [u64],
-    slot: u64,
     rank: u64,
     key: u64,
     value: u64,
 ) -> Result<u64, Refusal>
-    requires { Full pool.now key slot rank × (list_words ≤ length list.old) }
+    requires { Full pool.now key rank × (list_words ≤ length list.old) }
     ensures answer { new_with result ≡ answered (put_there pool.now key value) }
     ensures list { list.new ≡ list_after (put_there pool.now key value) list.old }
 {
@@ -35,6 +34,6 @@ pub fn put_full(
         return Err(Refusal::Damaged);
     }
     let mut list = EventList::new(list);
-    split_put(pool, &mut list, path, slot, rank, (key, value));
+    split_put(pool, &mut list, path, rank, (key, value));
     Ok(list.events)
 }

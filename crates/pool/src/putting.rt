@@ -71,7 +71,7 @@ fn put_at(
             events: list.events,
         });
     }
-    let events = put_full(pool, list, seat.slot, seat.rank, key, value)?;
+    let events = put_full(pool, list, seat.rank, key, value)?;
     Ok(Answer {
         outcome: Outcome::New,
         events,

@@ -11,6 +11,7 @@ use Rattle.words.specs.Event.{at}
 use Rattle.node.specs.Lists.{insert, all_below, covered}
 use Rattle.node.specs.Slot.{bytes, count, names, entries, slot, spot}
 use Rattle.node.specs.View.{Record, view, keys, rank, entry, slot_at, key_at, good, no_end}
+use Rattle.node.specs.declared.layout.Node.{Node}
 use Rattle.node.specs.inner.Looked.{Inside}
 use Rattle.node.proofs.Digits.{bytes_take}
 use Rattle.node.proofs.Places.{length_insert, getD_insert}
@@ -49,6 +50,10 @@ met_good m k least lo hi fits inside t =
       });
     }
 
+-- the slot word of node k of m
+pub node_slot : {m : List ℕ} {k : ℕ} (n : Node) → n.pool.now ≡ m → n.number ≡ k → n.slot ≡ at m (slot_at k)
+node_slot n p q = rw (← p, ← q) n.slot_is
+
 length_named : (m : List ℕ) (k : ℕ) → length (view m k).named ≡ count (at m (slot_at k))
 length_named m k = ap length (view_names m k) ∙ length_names (at m (slot_at k))
 
@@ -64,6 +69,14 @@ module _ {m : List ℕ} {k : ℕ} (t : Met m k) where
 
   pub met_room : (count (at m (slot_at k)) ≡ entries → ⊥) → full (view m k) ≡ false
   met_room n = ne_eqb (length (view m k).named) entries (λ e. n (sym (length_named m k) ∙ e))
+
+  -- the same of the node as the code has it, by the count that was taken of its slot word
+  module _ (n : Node) (p : n.pool.now ≡ m) (q : n.number ≡ k) {c : ℕ} (e : c ≡ count n.slot) where
+    pub node_full : c ≡ entries → full (view m k) ≡ true
+    node_full f = met_full (rw (node_slot n p q) at (sym e ∙ f))
+
+    pub node_room : (c ≡ entries → ⊥) → full (view m k) ≡ false
+    node_room f = met_room (λ r. f (e ∙ rw (node_slot n p q) r))
 
   pub full_count : full (view m k) ≡ true → count (at m (slot_at k)) ≡ entries
   full_count e = sym (length_named m k) ∙ eqb-true (length (view m k).named) entries e

@@ -103,7 +103,7 @@ module _ {m above : List ℕ} {k i : ℕ} {l : EventList} {g : List Pair} (rd : 
     }
 
 -- a put into a full leaf
-module _ {m path : List ℕ} {w rank key : ℕ} (sp : ToSplit m path w rank key) where
+module _ {m path : List ℕ} {rank key : ℕ} (sp : ToSplit m path rank key) where
   abbrev leaf : ℕ
   leaf = get_or path 0 0
 

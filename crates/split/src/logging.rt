@@ -69,18 +69,16 @@ impl Log {
     // new one that it is linked to; the slot word.
     pub fn note_staying(&mut self, eight: &Eight, next: Option<u64>)
         requires { length self.old + 4 ≤ p.pairs_most }
-        ensures { Noted (staying eight.now.pool.now eight.now.node eight.now.new next) self.old self.new }
+        ensures { Noted (staying eight.now.node.pool.now eight.now.node.number eight.now.new next) self.old self.new }
     {
+        let k = eight.node.number;
         if eight.rank < Eight::LOWER {
-            self.note_entry(eight.node, eight.spot, eight.new);
+            self.note_entry(k, eight.spot, eight.new);
         }
         if let Some(new) = next {
-            self.note(Node::link_at(eight.node), new);
+            self.note(Node::link_at(k), new);
         }
-        self.note(
-            Pool::node_at(eight.node),
-            slot_of(eight.names, Eight::LOWER),
-        );
+        self.note(Pool::node_at(k), slot_of(eight.names, Eight::LOWER));
     }
 
     // (b) to (e) of the pairs noted.

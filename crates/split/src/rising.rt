@@ -1,9 +1,7 @@
 // A split rises: what goes up splits each full node above, to the first that has room, or to a new root.
 ghost use Rattle.std.specs.Prelude.{◌≡◌, ◌+◌, ◌≤◌, ◌<◌, length};
 ghost use Rattle.words.specs.Pool as p;
-ghost use Rattle.words.specs.Event.{at};
 ghost use Rattle.node.specs.Slot as s;
-ghost use Rattle.node.specs.View.{slot_at};
 ghost use Rattle.tree.specs.Header.{height_of};
 ghost use Rattle.tree.specs.Lists.{Each};
 ghost use Rattle.change.specs.Put.{rise, needed};
@@ -20,14 +18,14 @@ use node::slot::{count, spot, with_name};
 use words::{EventList, Pool};
 
 // The node with room takes what goes up.
-fn taken(pool: &[u64], log: &mut Log, k: u64, w: u64, used: u64, up: (u64, u64))
-    requires { Met pool.now k × (w ≡ at pool.now (slot_at k)) × (s.count w < s.entries) × (length log.old + 4 ≤ p.pairs_most) }
-    ensures { Noted (parent_pairs pool.now k used up) log.old log.new }
+fn taken(log: &mut Log, node: Node<'_>, used: u64, up: (u64, u64))
+    requires { Met node.pool.now node.number × (s.count node.slot < s.entries) × (length log.old + 4 ≤ p.pairs_most) }
+    ensures { Noted (parent_pairs node.entry.pool.now node.entry.number used up) log.old log.new }
 {
-    let rank = rank_of(pool, k, w, up.0);
-    let free = spot(w);
-    log.note_entry(k, free, up);
-    log.note(Pool::node_at(k), with_name(w, rank, free));
+    let rank = rank_of(node, up.0);
+    let free = spot(node.slot);
+    log.note_entry(node.number, free, up);
+    log.note(Pool::node_at(node.number), with_name(node.slot, rank, free));
     log.note(Pool::USED_AT, used);
 }
 
@@ -58,13 +56,13 @@ pub fn risen(
     match levels {
         [] => crowned(pool, list, log, new, up),
         [k, above @ ..] => {
-            let w = pool[Pool::node_at(*k) as usize];
-            if count(w) == Node::ENTRIES {
-                let eight = Eight::of(pool, *k, w, rank_of(pool, *k, w, up.0), up);
+            let node = Node::at(pool, *k);
+            if count(node.slot) == Node::ENTRIES {
+                let eight = Eight::of(node, rank_of(node, up.0), up);
                 let next = split_inner(list, log, &eight, new);
                 risen(pool, list, log, above, split + 1, next);
             } else {
-                taken(pool, log, *k, w, new - 1, up);
+                taken(log, node, new - 1, up);
             }
         }
     }
@@ -78,7 +76,7 @@ pub fn nodes_needed(pool: &[u64], levels: &[u64]) -> u64
     match levels {
         [] => 1,
         [k, above @ ..] => {
-            if count(pool[Pool::node_at(*k) as usize]) == Node::ENTRIES {
+            if count(Node::at(pool, *k).slot) == Node::ENTRIES {
                 nodes_needed(pool, above) + 1
             } else {
                 0

@@ -27,9 +27,10 @@ Replaces s value l l' = (u : View) (key : ℕ) → Says u key s → Wrote (repla
 abbrev pub Fills : Seat → Record → EventList → EventList → Type 0
 Fills s x l l' = (u : View) → Says u x.0 s → Wrote (fill_events s.leaf u x) l l'
 
--- the way down to a key found its leaf, which is full and has not the key: its slot word, and the key's rank
-pub record Full (m : List ℕ) (key slot rank : ℕ) : Type 0 where
+-- the way down to a key found its leaf, which is full and has not the key: the key's rank there
+pub record Full (m : List ℕ) (key rank : ℕ) : Type 0 where
   pub leaf : ℕ
+  pub slot : ℕ
   pub admitted : Admitted m key (record { leaf = leaf; slot = slot; rank = rank; there = false })
   pub full : count slot ≡ entries
 

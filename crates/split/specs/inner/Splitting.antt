@@ -1,12 +1,12 @@
 -- What the planning of a split hands on from call to call. The lent list is l before a call and l' after it, the log's pairs g and g'.
 use Rattle.std.specs.Prelude.{ℕ, ◌+◌, ◌-◌, ◌*◌, ◌≤◌, ◌≡◌, List, [], ◌∷◌, ◌++◌, Option, Some, None, true, length, get_or}
 use Rattle.words.specs.Pool as p
-use Rattle.words.specs.Event.{at}
 use Rattle.words.specs.Blocks.{Pair, stored}
 use Rattle.words.specs.Written.{Wrote}
 use Rattle.words.specs.declared.write.EventList.{EventList}
 use Rattle.node.specs.View as views
 use Rattle.node.specs.View.{Record, view, slot_at, link_at}
+use Rattle.node.specs.inner.Said.{said}
 use Rattle.tree.specs.Header.{capacity_of, used_of, root_of, height_of, form_agrees, counts_agree}
 use Rattle.tree.specs.Lists.{Each}
 use Rattle.tree.specs.Halves.{eight, upper_four, fifth, upper_three}
@@ -19,7 +19,7 @@ use Rattle.split.specs.inner.Pairs.{Noted}
 
 -- "the 8 records"
 abbrev pub eight_of : Eight → List Record
-eight_of f = eight (view f.pool.now f.node) f.new
+eight_of f = eight (said f.node) f.new
 
 -- "word 1 (leaf only)": the new leaf that leaf k is linked to
 abbrev pub word_1 : ℕ → Option ℕ → List Pair
@@ -84,15 +84,13 @@ pub record Ready (m levels : List ℕ) (i : ℕ) (l : EventList) (g : List Pair)
   pub events : l.events ≤ 3 + 9 * i
   pub pairs : length g ≤ 1 + 3 * i
 
--- what a put into a full leaf is handed: the way down met the path's nodes, the leaf first, whose slot word is w, and the tests of
--- refusals 5 and 4 passed
-pub record ToSplit (m path : List ℕ) (w rank key : ℕ) : Type 0 where
+-- what a put into a full leaf is handed: the way down met the path's nodes, the leaf first, and the tests of refusals 5 and 4 passed
+pub record ToSplit (m path : List ℕ) (rank key : ℕ) : Type 0 where
   pub form : form_agrees m ≡ true
   pub counts : counts_agree m ≡ true
   pub high : length path ≤ p.height_most
   pub some : 1 ≤ length path
   pub nodes : Each (Met m) path
-  pub slot_is : w ≡ at m (slot_at (get_or path 0 0))
   pub full_is : full (view m (get_or path 0 0)) ≡ true
   pub rank_is : rank ≡ views.rank (view m (get_or path 0 0)) key
   pub need : needed m path ≤ p.height_most

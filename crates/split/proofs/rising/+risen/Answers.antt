@@ -1,9 +1,7 @@
 -- The levels that are left.
-use mathlib.Core.Path.{◌∙◌, ap, sym}
 use native.Mathlib.Omega.{arith}
 use borrow.Author.Rules.{rules}
-use Rattle.words.specs.Event.{at}
-use Rattle.split.proofs.Eights.{met_count, met_full, met_room}
+use Rattle.split.proofs.Eights.{node_slot, met_count, node_full, node_room}
 use Rattle.split.proofs.Levels.{rise_full, rise_room, rise_top}
 use Rattle.split.proofs.Splits.{no_levels, some_levels, first_of, rest_of}
 use Rattle.split.proofs.Splits.{ready_counts, ready_top, ready_first, ready_pairs, ready_full, ready_on}
@@ -31,35 +29,42 @@ returns-in-empty t c =
 pub split_inner-next-requires : goal.split_inner-next-requires
 split_inner-next-requires t c =
     let rd = ready_first c.requires c.in-len1-up.len_at_least in
-    ready_full rd (met_full rd.nodes.0 (rw c.node_at.ensures at (sym c.count.ensures ∙ c.if-count-eq-ENTRIES.true)))
+    let n = c.at-node.ensures in
+    ready_full rd (node_full rd.nodes.0 c.at-node.result n.pool n.number c.count.ensures c.if-count-eq-ENTRIES.true)
 
 pub risen-requires : goal.risen-requires
 risen-requires t c =
     let rd = ready_first c.requires c.in-len1-up.len_at_least in
-    let full = met_full rd.nodes.0 (rw c.node_at.ensures at (sym c.count.ensures ∙ c.if-count-eq-ENTRIES.true)) in
+    let n = c.at-node.ensures in
+    let full = node_full rd.nodes.0 c.at-node.result n.pool n.number c.count.ensures c.if-count-eq-ENTRIES.true in
     let e = c.of-eight.ensures in
-    (search rules, ready_on rd full c.args.up (rw (e.0, e.1, e.2) at c.split_inner-next.ensures))
+    (search rules, ready_on rd full c.args.up (rw (e.0, e.1, e.2, n.pool, n.number) at c.split_inner-next.ensures))
 
 pub taken-requires : goal.taken-requires
 taken-requires t c =
     let rd = ready_first c.requires c.in-len1-up.len_at_least in
-    let w = ap (at c.args.pool.now) c.node_at.ensures in
-    (rd.nodes.0, w, omega (arith, met_count rd.nodes.0, w, c.count.ensures, c.if-count-eq-ENTRIES.false), ready_pairs rd)
+    let n = c.at-node.ensures in
+    let w = node_slot c.at-node.result n.pool n.number in
+    let few = met_count rd.nodes.0 in
+    (rw (n.pool, n.number) rd.nodes.0, omega (arith, few, w, c.count.ensures, c.if-count-eq-ENTRIES.false), ready_pairs rd)
 
 pub returns-then-count-eq-ENTRIES : goal.returns-then-count-eq-ENTRIES
 returns-then-count-eq-ENTRIES t c =
     let a = c.args in
     let rd = ready_first c.requires c.in-len1-up.len_at_least in
-    let full = met_full rd.nodes.0 (rw c.node_at.ensures at (sym c.count.ensures ∙ c.if-count-eq-ENTRIES.true)) in
+    let n = c.at-node.ensures in
+    let full = node_full rd.nodes.0 c.at-node.result n.pool n.number c.count.ensures c.if-count-eq-ENTRIES.true in
     let e = c.of-eight.ensures in
     rw (some_levels a.levels.now c.in-len1-up.len_at_least)
     (rise_full a.pool.now a.split a.up (first_of a.levels.now) (rest_of a.levels.now) full
-    (rw (e.0, e.1, e.2) at c.split_inner-next.ensures) c.risen.ensures)
+    (rw (e.0, e.1, e.2, n.pool, n.number) at c.split_inner-next.ensures) c.risen.ensures)
 
 pub returns-else-count-eq-ENTRIES : goal.returns-else-count-eq-ENTRIES
 returns-else-count-eq-ENTRIES t c =
     let a = c.args in
     let rd = ready_first c.requires c.in-len1-up.len_at_least in
-    let room = met_room rd.nodes.0 (λ q. c.if-count-eq-ENTRIES.false (c.count.ensures ∙ rw c.node_at.ensures q)) in
+    let n = c.at-node.ensures in
+    let room = node_room rd.nodes.0 c.at-node.result n.pool n.number c.count.ensures c.if-count-eq-ENTRIES.false in
     rw (some_levels a.levels.now c.in-len1-up.len_at_least)
-    (rise_room a.pool.now a.split a.up (first_of a.levels.now) (rest_of a.levels.now) room (omega arith) c.taken.ensures)
+    (rise_room a.pool.now a.split a.up (first_of a.levels.now) (rest_of a.levels.now) room (omega arith)
+    (rw (n.pool, n.number) at c.taken.ensures))

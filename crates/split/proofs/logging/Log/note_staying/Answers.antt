@@ -20,14 +20,14 @@ note_entry-requires c =
 
 -- the new record, by its rank
 entered : (c : goal.After-note-2) → let f = c.args.eight.now in
-    Noted (if ltb f.rank lower then entry_pairs f.node f.spot f.new else []) c.args.self.now c.if-eight-lt-LOWER.self
+    Noted (if ltb f.rank lower then entry_pairs f.node.number f.spot f.new else []) c.args.self.now c.if-eight-lt-LOWER.self
 entered c = elim c.if-eight-lt-LOWER.branch [
   | then-eight-lt-LOWER w ↦ rw (lt-ltb _ _ w.if-eight-lt-LOWER.true, w.self-is) w.note_entry.ensures
   | else-eight-lt-LOWER w ↦ rw (le-ltb _ _ w.if-eight-lt-LOWER.false) (record { pairs = rw append-nil w.self-is })
 ]
 
 -- a leaf's new one
-linked : (c : goal.After-note-2) → Noted (word_1 c.args.eight.now.node c.args.next) c.if-eight-lt-LOWER.self c.match-next.self
+linked : (c : goal.After-note-2) → Noted (word_1 c.args.eight.now.node.number c.args.next) c.if-eight-lt-LOWER.self c.match-next.self
 linked c = elim c.match-next.branch [
   | in-Some w ↦ rw (w.in-Some.is, w.self-is) (rw w.link_at.ensures at w.note.ensures)
   | in_default w ↦ rw w.in_default.is (record { pairs = rw append-nil w.self-is })

@@ -8,11 +8,12 @@ use Rattle.split.proofs.opening.Eight.of.Goals as goal
 
 pub eight_names-requires : goal.eight_names-requires
 eight_names-requires c =
-    (c.requires.2, omega (arith, c.requires.1, c.requires.2, c.requires.3, rank_le c.requires.0 c.args.new.0), omega arith)
+    let p = c.requires in
+    (p.1, omega (arith, c.args.node.slot_is, p.1, p.2, rank_le p.0 c.args.new.0), omega arith)
 
 pub invariant_of-result : goal.invariant_of-result
 invariant_of-result c =
     let p = c.requires in
-    record {
-      opened = opened_in p.0 p.1 p.2 p.3 (c.spot_of-spot.ensures.0 ∙ ap spot (names_take c.args.w 3 (omega arith))) c.eight_names.ensures;
-    }
+    let w = c.args.node in
+    let three = names_take w.slot 3 (omega arith) in
+    record { opened = opened_in p.0 w.slot_is p.1 p.2 (c.spot_of-spot.ensures.0 ∙ ap spot three) c.eight_names.ensures }
