@@ -9,6 +9,6 @@ mod writing;
 
 pub use answering::{Fields, TEXT_MOST, write_text};
 pub use numbers::read_number;
-pub use parsing::{BadLine, parse};
+pub use parsing::{BadLine, LINE_MOST, parse};
 pub use taking::Taker;
 pub use writing::{write_bytes, write_number};

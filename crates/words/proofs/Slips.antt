@@ -1,5 +1,5 @@
--- Slips in a call or in its promise, each refuted at one input: there the promise forbids what the slip answers or leaves, or the slip
--- leaves a choice.
+-- Slips in a call or in its promise, each refuted at one input, or at all of a kind: there the promise forbids what the slip answers or
+-- leaves, or the slip leaves a choice.
 use Prim.Native.Nat.{ℕ, ◌+◌, ◌*◌, ◌<◌, ◌≤◌}
 use mathlib.Core.Path.{◌≡◌, refl, ◌∙◌, ap}
 use mathlib.Core.Logic.{◌≢◌}
