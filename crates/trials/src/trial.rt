@@ -41,7 +41,7 @@ pub fn play(capacity: u64, parts: &[Part]) -> Tally {
     let mut trial = Trial {
         pool: [0; POOL_WORDS],
         list: [0; LIST_WORDS],
-        model: Model::EMPTY,
+        model: Model::default(),
         tally: Tally::sound(0, 0, 0),
     };
     make(&mut trial.pool, &mut trial.list, capacity);
