@@ -6,15 +6,18 @@ use crate::steps::{Step, run};
 use change::{Outcome, Request};
 use desk::{Desk, DeskList, Turned};
 use std::io;
-use trials::asking::{CAPACITY, LIST_WORDS, POOL_WORDS, make};
+use trials::asking::{CAPACITY, Kept, LIST_WORDS, POOL_WORDS};
 use words::{Pool, Refusal};
 
-// A row on a fresh pool.
+const LEAST_WORDS: usize = Pool::WORDS_LEAST as usize;
+
+// A row on a pool and its list.
+fn on<const N: usize>(kept: &mut Kept<N>, desks: &mut [Desk], last: u64, row: &[Step]) -> bool {
+    run(&mut kept.pool, &mut kept.list, desks, last, row)
+}
+
 fn on_fresh_pool(desks: &mut [Desk], last: u64, row: &[Step]) -> bool {
-    let mut pool = [0u64; POOL_WORDS];
-    let mut list = [0u64; LIST_WORDS];
-    make(&mut pool, &mut list, CAPACITY);
-    run(&mut pool, &mut list, desks, last, row)
+    on(&mut Kept::<POOL_WORDS>::fresh(CAPACITY), desks, last, row)
 }
 
 // "One desk: next turn serves it."
@@ -98,28 +101,35 @@ fn last_past_desks() -> bool {
 
 // A list of 371 words: the turn is refused whether or not a desk is full, and leaves it full.
 fn short_list() -> bool {
-    let mut pool = [0u64; POOL_WORDS];
-    let mut list = [0u64; LIST_WORDS];
-    make(&mut pool, &mut list, CAPACITY);
-    let mut short = [0u64; LIST_WORDS - 1];
+    let mut kept = Kept::<POOL_WORDS>::fresh(CAPACITY);
     let row = [
         Step::unserved(Err(Refusal::ShortList), 2),
         Step::accepted(1, Request::Put(1, 10)),
         Step::unserved(Err(Refusal::ShortList), 2),
         Step::refused(1, Request::Put(1, 99), Refusal::FullDesk),
     ];
-    run(&mut pool, &mut short, &mut [DeskList::FRESH; 3], 2, &row)
+    run(
+        &mut kept.pool,
+        &mut [0; LIST_WORDS - 1],
+        &mut [DeskList::FRESH; 3],
+        2,
+        &row,
+    )
 }
 
 // "With none full [..]: Idle, on any pool, member 0, 0 events, last served as handed."
 fn none_full() -> bool {
-    let mut pool = [0u64; Pool::WORDS_LEAST as usize];
-    let mut list = [0u64; LIST_WORDS];
     let row = [
         Step::unserved(Ok(Turned::Idle), 2),
         Step::unserved(Ok(Turned::Idle), 2),
     ];
-    run(&mut pool, &mut list, &mut [DeskList::FRESH; 3], 2, &row)
+    run(
+        &mut [0; LEAST_WORDS],
+        &mut [0; LIST_WORDS],
+        &mut [DeskList::FRESH; 3],
+        2,
+        &row,
+    )
 }
 
 // "Inside a turn 2 to 5 become the member's answer and the desk is emptied."
@@ -137,13 +147,10 @@ fn refused_row(request: Request, why: Refusal) -> [Step; 5] {
 fn with_word(at: u64, word: u64, why: Refusal) -> bool
     requires { at ≤ 8 }
 {
-    let mut pool = [0u64; POOL_WORDS];
-    let mut list = [0u64; LIST_WORDS];
-    make(&mut pool, &mut list, CAPACITY);
-    pool[at as usize] = word;
-    run(
-        &mut pool,
-        &mut list,
+    let mut kept = Kept::<POOL_WORDS>::fresh(CAPACITY);
+    kept.pool[at as usize] = word;
+    on(
+        &mut kept,
         &mut [DeskList::FRESH; 3],
         0,
         &refused_row(Request::Put(7, 70), why),
@@ -172,18 +179,10 @@ fn seven_puts() -> [Step; 14] {
 
 // The only node of a pool is full.
 fn no_room() -> bool {
-    let mut pool = [0u64; Pool::WORDS_LEAST as usize];
-    let mut list = [0u64; LIST_WORDS];
-    make(&mut pool, &mut list, 1);
-    let filled = run(
-        &mut pool,
-        &mut list,
-        &mut [DeskList::FRESH; 7],
-        0,
-        &seven_puts(),
-    );
+    let mut kept = Kept::<LEAST_WORDS>::fresh(1);
+    let filled = on(&mut kept, &mut [DeskList::FRESH; 7], 0, &seven_puts());
     let new = refused_row(Request::Put(80, 8), Refusal::NoRoom);
-    filled && run(&mut pool, &mut list, &mut [DeskList::FRESH; 3], 0, &new)
+    filled && on(&mut kept, &mut [DeskList::FRESH; 3], 0, &new)
 }
 
 fn tell_refusals(rt: &impl Print) -> io::Result<()> {
