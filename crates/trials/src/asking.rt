@@ -1,4 +1,4 @@
-// The pools of the trials, and a request served on one: planned, then carried out.
+// A pool and its list as a trial keeps them, and a request served on them: planned, then carried out.
 use change::{Answer, Request};
 use words::{Pool, Refusal};
 
@@ -10,14 +10,28 @@ pub const POOL_WORDS: usize = (Pool::NODES_AT + Pool::NODE_WORDS * CAPACITY) as 
 
 pub const LIST_WORDS: usize = Pool::LIST_WORDS as usize;
 
-pub fn make(pool: &mut [u64], list: &mut [u64], capacity: u64) {
-    if let Ok(events) = pool::format(pool, list, capacity) {
-        words::carry_all(pool, list, events);
-    }
+#[derive(Drop)]
+pub struct Kept<const N: usize> {
+    pub pool: [u64; N],
+    pub list: [u64; LIST_WORDS],
 }
 
-pub fn serve(pool: &mut [u64], list: &mut [u64], request: Request) -> Result<Answer, Refusal> {
-    let answer = pool::serve(pool, list, request)?;
-    words::carry_all(pool, list, answer.events);
-    Ok(answer)
+impl<const N: usize> Kept<N> {
+    // An empty pool of a capacity, if the words are enough for it.
+    pub fn fresh(capacity: u64) -> Kept<N> {
+        let mut kept = Kept {
+            pool: [0; N],
+            list: [0; LIST_WORDS],
+        };
+        if let Ok(events) = pool::format(&mut kept.pool, &mut kept.list, capacity) {
+            words::carry_all(&mut kept.pool, &kept.list, events);
+        }
+        kept
+    }
+
+    pub fn serve(&mut self, request: Request) -> Result<Answer, Refusal> {
+        let answer = pool::serve(&mut self.pool, &mut self.list, request)?;
+        words::carry_all(&mut self.pool, &self.list, answer.events);
+        Ok(answer)
+    }
 }

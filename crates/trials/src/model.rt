@@ -1,61 +1,38 @@
 // The records that a pool should hold, as a plain list.
-ghost use Rattle.std.specs.Prelude.{◌<◌, ◌≤◌, IfSome};
-ghost use Rattle.trials.specs.declared.model.TheConstants.{MOST};
-
+use arrayvec::ArrayVec;
 use change::{Outcome, Request};
 
-const MOST: usize = 1024;
-
-// The first n are held.
-#[derive(Drop)]
+#[derive(Drop, Default)]
 pub struct Model {
-    records: [(u64, u64); MOST],
-    n: usize,
-    ghost within: { n ≤ MOST },
+    records: ArrayVec<(u64, u64), 1024>,
 }
 
 impl Model {
-    pub const EMPTY: Model = Model {
-        records: [(0, 0); MOST],
-        n: 0,
-    };
-
-    // Where a key stands among the records.
-    fn find(&self, key: u64) -> Option<usize>
-        ensures { IfSome result (λ i. i < self.now.n) }
-    {
-        self.records[..self.n]
+    // The value of a key.
+    fn value(&self, key: u64) -> Option<u64> {
+        self.records
             .iter()
-            .position(|record| record.0 == key)
+            .find(|record| record.0 == key)
+            .map(|record| record.1)
     }
 
     // What a request should be answered.
     pub fn expected(&self, request: Request) -> Outcome {
         match request {
-            Request::Put(key, _) => self.find(key).map_or(Outcome::New, |_| Outcome::Replaced),
-            Request::Fetch(key) => self
-                .find(key)
-                .map_or(Outcome::Absent, |i| Outcome::Found(self.records[i].1)),
-            Request::Delete(key) => self.find(key).map_or(Outcome::Absent, |_| Outcome::Removed),
+            Request::Put(key, _) => self.value(key).map_or(Outcome::New, |_| Outcome::Replaced),
+            Request::Fetch(key) => self.value(key).map_or(Outcome::Absent, Outcome::Found),
+            Request::Delete(key) => self
+                .value(key)
+                .map_or(Outcome::Absent, |_| Outcome::Removed),
         }
     }
 
+    // A new record that finds the list full is left out.
     fn put(&mut self, key: u64, value: u64) {
-        match self.find(key) {
-            Some(i) => self.records[i].1 = value,
-            None if self.n < MOST => {
-                self.records[self.n] = (key, value);
-                self.n += 1;
-            }
-            None => {}
-        }
-    }
-
-    // The last record takes the place of the one that goes.
-    fn delete(&mut self, key: u64) {
-        if let Some(i) = self.find(key) {
-            self.n -= 1;
-            self.records[i] = self.records[self.n];
+        if let Some(record) = self.records.iter_mut().find(|record| record.0 == key) {
+            record.1 = value;
+        } else {
+            let _ = self.records.try_push((key, value));
         }
     }
 
@@ -64,7 +41,7 @@ impl Model {
         match request {
             Request::Put(key, value) => self.put(key, value),
             Request::Fetch(_) => {}
-            Request::Delete(key) => self.delete(key),
+            Request::Delete(key) => self.records.retain(|record| record.0 != key),
         }
     }
 }

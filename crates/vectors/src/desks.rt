@@ -1,21 +1,23 @@
 // Rows of submits and turns on lent desks, with the answers that were worked out by hand.
 ghost use Rattle.std.specs.Prelude.{◌≤◌};
 
-use crate::lending::Desks;
 use crate::report::tell_whether;
 use crate::steps::{Step, run};
 use change::{Outcome, Request};
-use desk::Turned;
+use desk::{Desk, DeskList, Turned};
 use std::io;
-use trials::asking::{CAPACITY, LIST_WORDS, POOL_WORDS, make};
+use trials::asking::{CAPACITY, Kept, LIST_WORDS, POOL_WORDS};
 use words::{Pool, Refusal};
 
-// A row on a fresh pool.
-fn on_fresh_pool(desks: Desks, last: u64, row: &[Step]) -> bool {
-    let mut pool = [0u64; POOL_WORDS];
-    let mut list = [0u64; LIST_WORDS];
-    make(&mut pool, &mut list, CAPACITY);
-    run(&mut pool, &mut list, desks, last, row)
+const LEAST_WORDS: usize = Pool::WORDS_LEAST as usize;
+
+// A row on a pool and its list.
+fn on<const N: usize>(kept: &mut Kept<N>, desks: &mut [Desk], last: u64, row: &[Step]) -> bool {
+    run(&mut kept.pool, &mut kept.list, desks, last, row)
+}
+
+fn on_fresh_pool(desks: &mut [Desk], last: u64, row: &[Step]) -> bool {
+    on(&mut Kept::<POOL_WORDS>::fresh(CAPACITY), desks, last, row)
 }
 
 // "One desk: next turn serves it."
@@ -27,7 +29,7 @@ fn one_desk() -> bool {
         Step::accepted(1, Request::Fetch(7)),
         Step::served(1, Ok(Outcome::Found(70)), 0),
     ];
-    on_fresh_pool(Desks::fresh(1), 0, &row)
+    on_fresh_pool(&mut [DeskList::FRESH; 1], 0, &row)
 }
 
 // A desk that submits again at once waits its round; with last served 1, the third desk comes before the first.
@@ -48,7 +50,7 @@ fn three_desks() -> bool {
         Step::served(1, Ok(Outcome::Replaced), 3),
         Step::unserved(Ok(Turned::Idle), 1),
     ];
-    on_fresh_pool(Desks::fresh(3), 0, &row)
+    on_fresh_pool(&mut [DeskList::FRESH; 3], 0, &row)
 }
 
 // The last of the most desks comes before the first where 15 was last served.
@@ -60,7 +62,7 @@ fn sixteen_desks() -> bool {
         Step::served(16, Ok(Outcome::New), 7),
         Step::served(1, Ok(Outcome::New), 7),
     ];
-    on_fresh_pool(Desks::fresh(16), 15, &row)
+    on_fresh_pool(&mut [DeskList::FRESH; 16], 15, &row)
 }
 
 // A full desk keeps its first request. There is no member 0, and none past the desks.
@@ -75,11 +77,11 @@ fn full_desk() -> bool {
         Step::served(2, Ok(Outcome::Found(10)), 0),
         Step::unserved(Ok(Turned::Idle), 2),
     ];
-    on_fresh_pool(Desks::fresh(3), 0, &row)
+    on_fresh_pool(&mut [DeskList::FRESH; 3], 0, &row)
 }
 
 // A list of desks that is empty, or over 16.
-fn no_desks(desks: Desks) -> bool {
+fn no_desks(desks: &mut [Desk]) -> bool {
     let row = [
         Step::refused(1, Request::Put(1, 10), Refusal::NoDesk),
         Step::unserved(Err(Refusal::NoDesk), 0),
@@ -94,33 +96,40 @@ fn last_past_desks() -> bool {
         Step::unserved(Err(Refusal::NoDesk), 4),
         Step::refused(1, Request::Put(1, 99), Refusal::FullDesk),
     ];
-    on_fresh_pool(Desks::fresh(3), 4, &row)
+    on_fresh_pool(&mut [DeskList::FRESH; 3], 4, &row)
 }
 
 // A list of 371 words: the turn is refused whether or not a desk is full, and leaves it full.
 fn short_list() -> bool {
-    let mut pool = [0u64; POOL_WORDS];
-    let mut list = [0u64; LIST_WORDS];
-    make(&mut pool, &mut list, CAPACITY);
-    let mut short = [0u64; LIST_WORDS - 1];
+    let mut kept = Kept::<POOL_WORDS>::fresh(CAPACITY);
     let row = [
         Step::unserved(Err(Refusal::ShortList), 2),
         Step::accepted(1, Request::Put(1, 10)),
         Step::unserved(Err(Refusal::ShortList), 2),
         Step::refused(1, Request::Put(1, 99), Refusal::FullDesk),
     ];
-    run(&mut pool, &mut short, Desks::fresh(3), 2, &row)
+    run(
+        &mut kept.pool,
+        &mut [0; LIST_WORDS - 1],
+        &mut [DeskList::FRESH; 3],
+        2,
+        &row,
+    )
 }
 
 // "With none full [..]: Idle, on any pool, member 0, 0 events, last served as handed."
 fn none_full() -> bool {
-    let mut pool = [0u64; Pool::WORDS_LEAST as usize];
-    let mut list = [0u64; LIST_WORDS];
     let row = [
         Step::unserved(Ok(Turned::Idle), 2),
         Step::unserved(Ok(Turned::Idle), 2),
     ];
-    run(&mut pool, &mut list, Desks::fresh(3), 2, &row)
+    run(
+        &mut [0; LEAST_WORDS],
+        &mut [0; LIST_WORDS],
+        &mut [DeskList::FRESH; 3],
+        2,
+        &row,
+    )
 }
 
 // "Inside a turn 2 to 5 become the member's answer and the desk is emptied."
@@ -138,14 +147,11 @@ fn refused_row(request: Request, why: Refusal) -> [Step; 5] {
 fn with_word(at: u64, word: u64, why: Refusal) -> bool
     requires { at ≤ 8 }
 {
-    let mut pool = [0u64; POOL_WORDS];
-    let mut list = [0u64; LIST_WORDS];
-    make(&mut pool, &mut list, CAPACITY);
-    pool[at as usize] = word;
-    run(
-        &mut pool,
-        &mut list,
-        Desks::fresh(3),
+    let mut kept = Kept::<POOL_WORDS>::fresh(CAPACITY);
+    kept.pool[at as usize] = word;
+    on(
+        &mut kept,
+        &mut [DeskList::FRESH; 3],
         0,
         &refused_row(Request::Put(7, 70), why),
     )
@@ -173,18 +179,16 @@ fn seven_puts() -> [Step; 14] {
 
 // The only node of a pool is full.
 fn no_room() -> bool {
-    let mut pool = [0u64; Pool::WORDS_LEAST as usize];
-    let mut list = [0u64; LIST_WORDS];
-    make(&mut pool, &mut list, 1);
-    let filled = run(&mut pool, &mut list, Desks::fresh(7), 0, &seven_puts());
+    let mut kept = Kept::<LEAST_WORDS>::fresh(1);
+    let filled = on(&mut kept, &mut [DeskList::FRESH; 7], 0, &seven_puts());
     let new = refused_row(Request::Put(80, 8), Refusal::NoRoom);
-    filled && run(&mut pool, &mut list, Desks::fresh(3), 0, &new)
+    filled && on(&mut kept, &mut [DeskList::FRESH; 3], 0, &new)
 }
 
 fn tell_refusals(rt: &impl Print) -> io::Result<()> {
     tell_whether(rt, "full desk", full_desk())?;
-    tell_whether(rt, "no desks", no_desks(Desks::fresh(0)))?;
-    tell_whether(rt, "seventeen desks", no_desks(Desks::fresh(17)))?;
+    tell_whether(rt, "no desks", no_desks(&mut [DeskList::FRESH; 0]))?;
+    tell_whether(rt, "seventeen desks", no_desks(&mut [DeskList::FRESH; 17]))?;
     tell_whether(rt, "last served past the desks", last_past_desks())?;
     tell_whether(rt, "turn with a short list", short_list())?;
     tell_whether(

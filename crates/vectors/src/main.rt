@@ -4,7 +4,6 @@
 #![tactic(auto)]
 
 mod desks;
-mod lending;
 mod report;
 mod steps;
 

@@ -1,8 +1,7 @@
 // Rows of submits and turns, with the answer of each as it was worked out. A step is handed the pool and the desks as the step before left
 // them, and a turn the last served that the turn before answered.
-use crate::lending::Desks;
 use change::{Outcome, Request};
-use desk::{Turn, Turned};
+use desk::{Desk, Turn, Turned};
 use words::Refusal;
 
 #[derive(Clone, Copy)]
@@ -44,16 +43,16 @@ impl Step {
 pub fn run(
     pool: &mut [u64],
     list: &mut [u64],
-    mut desks: Desks,
+    desks: &mut [Desk],
     mut last: u64,
     row: &[Step],
 ) -> bool {
     let mut good = true;
     for step in row {
         good &= match *step {
-            Step::Submit(member, request, want) => desks.submit(member, request) == want,
+            Step::Submit(member, request, want) => desk::submit(desks, member, request) == want,
             Step::Turn(want) => {
-                let came = desks.turn(pool, list, last);
+                let came = desk::turn(pool, list, desks, last);
                 last = came.last;
                 came == want
             }
