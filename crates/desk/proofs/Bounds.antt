@@ -1,6 +1,6 @@
 -- What the tests of refusal 9 say.
 use Prim.Native.Nat.{ℕ, ◌≤◌}
-use mathlib.Core.Path.{◌≡◌, refl}
+use mathlib.Core.Path.{◌≡◌}
 use mathlib.Core.Bool.{Bool, true, false}
 use lib.Dec.{leb}
 use borrow.Author.Tests.{le-leb, leb-true}
@@ -17,14 +17,6 @@ may_turn_true n last t =
     let a = both {a = within 1 n desks_most} {b = leb last n} t in
     let b = within_says 1 n desks_most a.0 in
     (b.0, b.1, leb-true last n a.1)
-
--- where one of these fails, the turn is refused
-pub no_turn : (n last : ℕ) → ((1 ≤ n) × (n ≤ desks_most) × (last ≤ n) → ⊥) → may_turn n last ≡ false
-no_turn n last f = go (may_turn n last) refl
-  where
-    go : (b : Bool) → may_turn n last ≡ b → b ≡ false
-    go true t = absurd (f (may_turn_true n last t))
-    go false t = refl
 
 pub turn_may : (n last : ℕ) → 1 ≤ n → n ≤ desks_most → last ≤ n → may_turn n last ≡ true
 turn_may n last a b c = rw (le-leb 1 n a, le-leb n desks_most b, le-leb last n c)

@@ -2,10 +2,10 @@
 -- same request.
 use Prim.Native.Nat.{ℕ}
 use mathlib.Core.Path.{◌≡◌, refl, sym, ◌∙◌, ap}
-use mathlib.Core.List.{List}
+use mathlib.Core.List.{List, []}
 use lib.ListN.{get_or}
 use types.Logic.{Logic}
-use contract.BorrowLft.{◌⊑◌}
+use contract.BorrowLft.{◌⊑◌, ⊑_static}
 use contract.Lifetimes.{Lfts, lft_at}
 use contract.Notation.{connectives}
 use borrow.Fn.Kind.{ParamKind, ResultKind}
@@ -22,13 +22,17 @@ use Rattle.words.specs.declared.refusal.Refusal.{Refusal}
 use Rattle.words.proofs.Answers.{one_outcome, both_same}
 use Rattle.words.proofs.Tight.{Tight}
 use Rattle.change.specs.declared.Request.{Request}
+use Rattle.change.specs.contracts.Request.{the_row as request_row}
+use Rattle.std.specs.contracts.option.Option.{the_row as option_row}
 use Rattle.desk.specs.declared.lent.Lent.{Ghosts}
+use Rattle.desk.specs.contracts.lent.OptionRequestLent.TheImpl.{ghosts as desk_ghosts}
 use Rattle.desk.specs.declared.answer.Turn.{Turn}
 use Rattle.desk.specs.declared.asking.Asked.{Asked}
 use Rattle.desk.specs.Desk.{Desk, fresh, with_desk}
 use Rattle.desk.specs.Promises.{SubmitPromise, PlanTurnPromise, TurnPromise, laid}
-use base.Logic.{SProp}
-use contract.Monad.{Fun}
+use base.Logic.{SProp, pcs, sep, emp, emp∗, both⊢, via, mono_l, guard_i}
+use seplogic.Bi.Connectives.{affine}
+use contract.Monad.{Fun, fact}
 use prog.Memory.{Memory}
 use prog.Routine.{Routine}
 use seplogic.Ra.Ura.{Ura}
@@ -45,8 +49,8 @@ use Rattle.desk.proofs.turn.Reads as turn_reads
 use Rattle.desk.proofs.ask.Kinds as ask
 use Rattle.desk.proofs.ask.Reads as ask_reads
 
--- of submit, turn and plan_turn, at desks lent in any form: in every model the contract asks nothing but that the desks outlive the call,
--- and ensures the promise of the desks that are read, and which lent desks are left ..
+-- of submit, turn and plan_turn, at desks lent in any form: in every model the contract asks nothing but that the borrow of the desks ends
+-- no later than what the desks borrow themselves, and ensures the promise of the desks that are read, and which lent desks are left ..
 module _ (T : RattleType) (F : Ghosts T.Denot) (f : Dict) (C : CloneGhosts T.Denot) (c : Dict) {M : Type 1} {𝓤 : Ura M} (𝓛 : Logic 𝓤)
     (mem : Memory → SProp 𝓤) (run : Routine → Fun 𝓤) where
   open connectives 𝓤 use {⌜◌⌝, ◌∗◌, ⊤ₛ}
@@ -130,6 +134,55 @@ module _ (T : RattleType) (L : Laws T) (K : IsCopy T) (F : Ghosts T.Denot) (f : 
       let k = plan_turn_reads.learnt-apart T L K F f C c κs a s y k in
       let same = turn_told r s (h.promise.0 ∙ sym k.promise.0) in
       (same, both_same (h.promise.1 ∙ sym k.promise.1) (h.lent ∙ rw same (sym k.lent)))
+
+-- at 01's desks, which borrow nothing: each of the three asks nothing ..
+abbrev desk_row : RattleType
+desk_row = option_row request_row
+
+module _ {M : Type 1} (𝓤 : Ura M) where
+  -- a fact that holds asks nothing
+  held_is_emp : (A : Type 0) → A → sep 𝓤 (fact 𝓤 A) (emp 𝓤) ≡ emp 𝓤
+  held_is_emp A x =
+      let e = emp 𝓤 in both⊢ 𝓤 (affine (pcs 𝓤)) (via 𝓤 (sep 𝓤 e e) (emp∗ 𝓤 e) (mono_l 𝓤 e (guard_i 𝓤 A e x)))
+
+module _ (f : Dict) (C : CloneGhosts desk_row.Denot) (c : Dict) where
+  module _ {M : Type 1} {𝓤 : Ura M} (𝓛 : Logic 𝓤) (mem : Memory → SProp 𝓤) (run : Routine → Fun 𝓤) where
+    pub desk_submit_requires : (κs : Lfts 2) (a : Args (submit.signature desk_row) κs)
+        → (submit.spec desk_row desk_ghosts f C c 𝓛 mem run κs a).requires tt ≡ emp 𝓤
+    desk_submit_requires κs a = held_is_emp 𝓤 (lft_at 2 1 tt κs ⊑ []) (⊑_static (lft_at 2 1 tt κs))
+
+    pub desk_turn_requires : (κs : Lfts 4) (a : Args (turn.signature desk_row) κs)
+        → (turn.spec desk_row desk_ghosts f C c 𝓛 mem run κs a).requires tt ≡ emp 𝓤
+    desk_turn_requires κs a = held_is_emp 𝓤 (lft_at 4 3 tt κs ⊑ []) (⊑_static (lft_at 4 3 tt κs))
+
+    pub desk_plan_turn_requires : (κs : Lfts 4) (a : Args (plan_turn.signature desk_row) κs)
+        → (plan_turn.spec desk_row desk_ghosts f C c 𝓛 mem run κs a).requires tt ≡ emp 𝓤
+    desk_plan_turn_requires κs a = held_is_emp 𝓤 (lft_at 4 3 tt κs ⊑ []) (⊑_static (lft_at 4 3 tt κs))
+
+  -- .. and, as a caller reads it, allows one outcome
+  module _ (L : Laws desk_row) (K : IsCopy desk_row) where
+    pub desk_submit_tight : Tight 2 (submit_kinds.ps desk_row L K) (submit_kinds.r desk_row L K)
+        (submit_reads.Asked desk_row L K desk_ghosts f C c) (submit_reads.Learnt desk_row L K desk_ghosts f C c) (λ κs x. x.0.now)
+    desk_submit_tight = record {
+      free = λ κs a. ⊑_static (lft_at 2 1 tt κs);
+      one = lent_submit_tight desk_row L K desk_ghosts f C c;
+    }
+
+    pub desk_turn_tight : Tight 4 (turn_kinds.ps desk_row L K) (turn_kinds.r desk_row L K) {B = (List ℕ × List ℕ) × List Desk}
+        (turn_reads.Asked desk_row L K desk_ghosts f C c) (turn_reads.Learnt desk_row L K desk_ghosts f C c)
+        (λ κs x. ((x.0.now, x.1.0.now), x.1.1.0.now))
+    desk_turn_tight = record {
+      free = λ κs a. ⊑_static (lft_at 4 3 tt κs);
+      one = lent_turn_tight desk_row L K desk_ghosts f C c;
+    }
+
+    pub desk_plan_turn_tight : Tight 4 (plan_turn_kinds.ps desk_row L K) (plan_turn_kinds.r desk_row L K) {B = List ℕ × List Desk}
+        (plan_turn_reads.Asked desk_row L K desk_ghosts f C c) (plan_turn_reads.Learnt desk_row L K desk_ghosts f C c)
+        (λ κs x. (x.1.0.now, x.1.1.0.now))
+    desk_plan_turn_tight = record {
+      free = λ κs a. ⊑_static (lft_at 4 3 tt κs);
+      one = lent_plan_turn_tight desk_row L K desk_ghosts f C c;
+    }
 
 -- the parts of an answer to ask
 asked_is : {a b : Result Unit Refusal} {t u : Turn} {d e : Desk} → a ≡ b → t ≡ u → d ≡ e

@@ -11,7 +11,7 @@ use words::Refusal;
 fn seat(desks: usize, member: u64) -> Result<usize, Refusal>
     ensures { result ≡ (if may_submit desks member then Ok (member - 1) else Err Refusal.NoDesk) }
 {
-    if DeskList::MOST < desks || member == 0 || (desks as u64) < member {
+    if DeskList::MOST < desks || !(1..=desks as u64).contains(&member) {
         return Err(Refusal::NoDesk);
     }
     Ok(member as usize - 1)

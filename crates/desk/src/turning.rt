@@ -37,7 +37,7 @@ fn choose<L: Lent>(
     ensures within { IfOk result (λ o. IfSome o (λ x. x.0 < length desks.now)) }
 {
     let n = desks.len();
-    if n == 0 || DeskList::MOST < n || (n as u64) < last {
+    if !(1..=DeskList::MOST).contains(&n) || (n as u64) < last {
         return Err(Refusal::NoDesk);
     }
     if (list.len() as u64) < Pool::LIST_WORDS {
