@@ -13,10 +13,3 @@ pub struct Look {
     pub after: u64,
     pub last: u64,
 }
-
-// The rank of a key in a node, and whether it is there.
-#[derive(Drop)]
-pub struct Place {
-    pub rank: u64,
-    pub there: bool,
-}

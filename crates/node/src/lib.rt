@@ -8,5 +8,5 @@ pub mod look;
 pub mod marks;
 pub mod slot;
 
-pub use cover::{Cover, Look, Place};
+pub use cover::{Cover, Look};
 pub use layout::Node;

@@ -6,7 +6,7 @@ ghost use Rattle.node.specs.inner.Said.{said};
 ghost use Rattle.node.specs.inner.Looked as l;
 ghost use Rattle.node.specs.inner.Looked.{Looked, Placed, end_of};
 
-use crate::cover::{Cover, Look, Place};
+use crate::cover::{Cover, Look};
 use crate::layout::Node;
 use crate::slot::{count, name};
 
@@ -72,22 +72,19 @@ impl Node<'_> {
         }
     }
 
-    // Where a key stands in the node, which is sound and of whose keys so many are not above it: at the last of them, or after it.
-    pub fn place(self, after: u64, key: u64) -> Place
+    // The rank of a key in the node, which is sound and of whose keys so many are not above it: Ok where the key is there, as the last of
+    // them, and Err where it would stand after them.
+    pub fn place(self, after: u64, key: u64) -> Result<u64, u64>
         requires sound { v.sound 0 (said self) ≡ true }
         requires after_value { after ≡ upto key (v.keys (said self).records) }
         ensures { Placed key (said self.entry) result }
     {
         if after == 0 {
-            return Place {
-                rank: 0,
-                there: false,
-            };
+            return Err(0);
         }
-        let there = self.key(name(self.slot, after - 1)) == key;
-        Place {
-            rank: after - (there as u64),
-            there,
+        if self.key(name(self.slot, after - 1)) != key {
+            return Err(after);
         }
+        Ok(after - 1)
     }
 }

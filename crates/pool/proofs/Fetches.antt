@@ -5,7 +5,7 @@ use mathlib.Core.List.{List, []}
 use mathlib.Core.Bool.{Bool, true, false, not}
 use lib.Dec.{eqb}
 use lib.ListN.{get_or}
-use Rattle.std.specs.Prelude.{if◌then◌else◌, Result, Ok}
+use Rattle.std.specs.Prelude.{if◌then◌else◌, Result, Ok, Err}
 use Rattle.words.specs.Event.{at}
 use Rattle.words.specs.declared.refusal.Refusal.{Refusal}
 use Rattle.words.specs.declared.refusal.Refusal.TheVariants.{NoPool, Unfinished}
@@ -15,7 +15,7 @@ use Rattle.tree.specs.Header.{commit_of, form_agrees}
 use Rattle.tree.specs.Path.{Way, failed, leaf, way_to}
 use Rattle.tree.specs.declared.descend.Seat.{Seat}
 use Rattle.tree.proofs.Find.{find_absent}
-use Rattle.tree.proofs.Leaves.{found_value}
+use Rattle.tree.proofs.Leaves.{placed, found_value}
 use Rattle.change.specs.declared.Outcome.{Outcome}
 use Rattle.change.specs.declared.Outcome.TheVariants.{Absent, Found}
 use Rattle.change.specs.Answers.{outcome_says}
@@ -31,10 +31,10 @@ module _ (m : List ℕ) (key : ℕ) where
   says r e = sym (ap (λ (p : Planned Outcome). outcome_says p.answer) e)
 
   module _ {s : Seat} (p : Admitted m key s) where
-    pub fetch_absent : s.there ≡ false → FetchPromise m key (Ok Absent)
-    fetch_absent n = says (Ok Absent) (gate_at p (fetch_at m key) ∙ rw (find_absent key _ (sym p.seated.there_is ∙ n)) refl)
+    pub fetch_absent : {r : ℕ} → s.place ≡ Err r → FetchPromise m key (Ok Absent)
+    fetch_absent e = says (Ok Absent) (gate_at p (fetch_at m key) ∙ rw (find_absent key _ (placed (found_leaf p) e).1) refl)
 
-    pub fetch_found : s.there ≡ true → {e v : ℕ} → e ≡ get_or (names s.slot) s.rank 0
+    pub fetch_found : {r : ℕ} → s.place ≡ Ok r → {e v : ℕ} → e ≡ get_or (names s.slot) r 0
         → v ≡ at m (value_at s.leaf e) → FetchPromise m key (Ok (Found v))
     fetch_found h {e} {v} x y = says (Ok (Found v)) (gate_at p (fetch_at m key) ∙ rw (found_value (found_leaf p) h x y) refl)
 

@@ -7,7 +7,7 @@ use native.Mathlib.Omega.{arith}
 use lib.ListN.{length, take, drop, get_or}
 use lib.Seq.{length-take-le}
 use borrow.Author.Tests.{lt-ltb, le-ltb, eq-eqb}
-use Rattle.std.specs.Prelude.{Ok}
+use Rattle.std.specs.Prelude.{Ok, Err}
 use Rattle.words.specs.Pool as p
 use Rattle.words.specs.Event.{at}
 use Rattle.words.specs.declared.refusal.Refusal.TheVariants.{Damaged, NoRoom}
@@ -40,8 +40,9 @@ path_is [] n k long e = absurd (omega arith)
 path_is (x ∷ ps) n k long e = rw e
 
 -- the leaf of a seat that is full and has not the key
-pub full_at : {m : List ℕ} {key : ℕ} {s : Seat} → Admitted m key s → s.there ≡ false → count s.slot ≡ entries → Full m key s.rank
-full_at {s = s} p absent full =
+pub full_at : {m : List ℕ} {key r : ℕ} {s : Seat} → Admitted m key s → s.place ≡ Err r → count s.slot ≡ entries
+    → Full m key r
+full_at {s = s} p e full =
     let w = p.seated in
     record {
       leaf = s.leaf;
@@ -49,14 +50,14 @@ full_at {s = s} p absent full =
       admitted = record {
         form_is = p.form_is;
         finished = p.finished;
-        seated = record { way_is = w.way_is; slot_is = w.slot_is; rank_is = w.rank_is; there_is = sym absent ∙ w.there_is };
+        seated = record { way_is = w.way_is; slot_is = w.slot_is; place_is = rw e at w.place_is };
       };
       full = full;
     }
 
 module _ {m : List ℕ} {key rank : ℕ} (f : Full m key rank) where
   abbrev s : Seat
-  s = record { leaf = f.leaf; slot = f.slot; rank = rank; there = false }
+  s = record { leaf = f.leaf; slot = f.slot; place = Err rank }
 
   abbrev above : List ℕ
   above = above_of (way_to m key)
@@ -71,7 +72,7 @@ module _ {m : List ℕ} {key rank : ℕ} (f : Full m key rank) where
   counts_hold = way_to_counts m key seated.way_is
 
   pub absent_is : has key (keys (view m s.leaf).records) ≡ false
-  absent_is = sym seated.there_is
+  absent_is = seated.place_is.1
 
   pub full_is : full (view m s.leaf) ≡ true
   full_is = eq-eqb _ _ (ap length leaf_there.names_are ∙ length_names f.slot ∙ f.full)
@@ -114,7 +115,7 @@ module _ {m : List ℕ} {key rank : ℕ} (f : Full m key rank) where
             some = omega (arith, path_long, c.height.0);
             nodes = path_met words;
             full_is = rw taken_are full_is;
-            rank_is = seated.rank_is ∙ rw taken_are refl;
+            rank_is = seated.place_is.0 ∙ rw taken_are refl;
             need = rw (← counted) few;
             free = rw (← counted) free;
           }

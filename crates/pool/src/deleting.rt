@@ -11,13 +11,13 @@ pub fn delete(pool: &[u64], list: &mut [u64], key: u64) -> Result<Answer, Refusa
 {
     pass_list(list)?;
     let seat = pass_gate(pool, key)?;
-    if !seat.there {
+    let Ok(rank) = seat.place else {
         return Ok(Answer {
             outcome: Outcome::Absent,
             events: 0,
         });
-    }
-    let slot = without_name(seat.slot, seat.rank);
+    };
+    let slot = without_name(seat.slot, rank);
     let mut list = EventList::new(list);
     list.once(Pool::node_at(seat.leaf), slot);
     Ok(Answer {

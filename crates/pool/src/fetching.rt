@@ -11,9 +11,9 @@ pub fn fetch(pool: &[u64], key: u64) -> Result<Outcome, Refusal>
     ensures { FetchPromise pool.now key result }
 {
     let seat = pass_gate(pool, key)?;
-    if !seat.there {
+    let Ok(rank) = seat.place else {
         return Ok(Outcome::Absent);
-    }
-    let entry = name(seat.slot, seat.rank);
+    };
+    let entry = name(seat.slot, rank);
     Ok(Outcome::Found(record_value(pool, seat.leaf, entry)))
 }

@@ -17,21 +17,21 @@ use tree::descend::Seat;
 use words::{EventList, Pool, Refusal};
 
 // A present key: its value is stored.
-fn replace(list: &mut EventList, seat: Seat, value: u64)
+fn replace(list: &mut EventList, seat: Seat, rank: u64, value: u64)
     requires room { (list.old.events ≡ 0) × (seat.leaf ≤ p.capacity_most) }
-    requires rank_bound { (seat.rank < s.count seat.slot) × (s.count seat.slot ≤ s.entries)
+    requires rank_bound { (rank < s.count seat.slot) × (s.count seat.slot ≤ s.entries)
         × (all_below s.entries (s.names seat.slot) ≡ true) }
-    ensures { Replaces seat value list.old list.new }
+    ensures { Replaces seat rank value list.old list.new }
 {
-    let entry = name(seat.slot, seat.rank);
+    let entry = name(seat.slot, rank);
     list.once(Node::value_at(seat.leaf, entry), value);
 }
 
 // A leaf that is not full: key and value into the lowest unused entry, then the slot word.
-fn fill(list: &mut EventList, seat: Seat, key: u64, value: u64)
-    requires { (list.old.events ≡ 0) × (seat.leaf ≤ p.capacity_most) × (seat.rank ≤ s.count seat.slot)
+fn fill(list: &mut EventList, seat: Seat, rank: u64, key: u64, value: u64)
+    requires { (list.old.events ≡ 0) × (seat.leaf ≤ p.capacity_most) × (rank ≤ s.count seat.slot)
         × (s.count seat.slot < s.entries) }
-    ensures { Fills seat (key, value) list.old list.new }
+    ensures { Fills seat rank (key, value) list.old list.new }
 {
     let entry = spot(seat.slot);
     let word = Node::value_at(seat.leaf, entry);
@@ -39,7 +39,7 @@ fn fill(list: &mut EventList, seat: Seat, key: u64, value: u64)
     list.store(word, value);
     list.flush(Pool::line(word));
     list.fence();
-    let slot = with_name(seat.slot, seat.rank, entry);
+    let slot = with_name(seat.slot, rank, entry);
     list.once(Pool::node_at(seat.leaf), slot);
 }
 
@@ -55,27 +55,31 @@ fn put_at(
     ensures answer { result ≡ answered (put_there pool.now key value) }
     ensures list { list.new ≡ list_after (put_there pool.now key value) list.old }
 {
-    if seat.there {
-        let mut list = EventList::new(list);
-        replace(&mut list, seat, value);
-        return Ok(Answer {
-            outcome: Outcome::Replaced,
-            events: list.events,
-        });
+    match seat.place {
+        Ok(rank) => {
+            let mut list = EventList::new(list);
+            replace(&mut list, seat, rank, value);
+            Ok(Answer {
+                outcome: Outcome::Replaced,
+                events: list.events,
+            })
+        }
+        Err(rank) if count(seat.slot) < Node::ENTRIES => {
+            let mut list = EventList::new(list);
+            fill(&mut list, seat, rank, key, value);
+            Ok(Answer {
+                outcome: Outcome::New,
+                events: list.events,
+            })
+        }
+        Err(rank) => {
+            let events = put_full(pool, list, rank, key, value)?;
+            Ok(Answer {
+                outcome: Outcome::New,
+                events,
+            })
+        }
     }
-    if count(seat.slot) < Node::ENTRIES {
-        let mut list = EventList::new(list);
-        fill(&mut list, seat, key, value);
-        return Ok(Answer {
-            outcome: Outcome::New,
-            events: list.events,
-        });
-    }
-    let events = put_full(pool, list, seat.rank, key, value)?;
-    Ok(Answer {
-        outcome: Outcome::New,
-        events,
-    })
 }
 
 pub fn put(pool: &[u64], list: &mut [u64], key: u64, value: u64) -> Result<Answer, Refusal>

@@ -63,5 +63,7 @@ pub fn rank_of(node: Node<'_>, key: u64) -> u64
     ensures { result ≡ views.rank (said node.entry) key }
 {
     let seen = node.look(0, 0, key).unwrap();
-    node.place(seen.after, key).rank
+    match node.place(seen.after, key) {
+        Ok(rank) | Err(rank) => rank,
+    }
 }

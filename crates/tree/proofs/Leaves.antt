@@ -6,6 +6,7 @@ use mathlib.Core.Bool.{true}
 use mathlib.Core.Option.{some}
 use native.Mathlib.Omega.{arith}
 use lib.ListN.{length, get_or}
+use Rattle.std.specs.Prelude.{Result, Ok, Err}
 use Rattle.words.specs.Tests.{within}
 use Rattle.words.specs.Event.{at}
 use Rattle.node.specs.Lists.{rising}
@@ -18,6 +19,7 @@ use Rattle.tree.specs.Header.{used_of, form_agrees}
 use Rattle.tree.specs.Kids.{Kid, pick, root_kid, leaf_least, inner_least, fits}
 use Rattle.tree.specs.Path.{Way, leaf, parent, way, levels_above}
 use Rattle.tree.specs.Map.{find}
+use Rattle.node.specs.inner.Looked.{Placed}
 use Rattle.tree.specs.inner.Descended.{Seated}
 use Rattle.tree.proofs.Find.{find_present}
 use Rattle.tree.proofs.Path.{Passed, passed, way_to_counts, way_to_down}
@@ -71,17 +73,21 @@ module _ {m : List ℕ} {key : ℕ} {s : Seat} (a : AtLeaf m key s) where
   keys_count =
       keys_many m s.leaf ∙ ap count (sym a.named.word)
 
-  pub rank_few : s.rank ≤ count s.slot
-  rank_few = omega (arith, a.seated.rank_is, keys_count, below_length key (keys (view m s.leaf).records))
+  pub placed : {r : Result ℕ ℕ} → s.place ≡ r → Placed key (view m s.leaf) r
+  placed e = rw e at a.seated.place_is
 
-  pub rank_there : s.there ≡ true → s.rank < count s.slot
-  rank_there t =
-      let ks = keys (view m s.leaf).records in
-      omega (arith, a.seated.rank_is, keys_count, (found_at key ks a.rising_keys (sym a.seated.there_is ∙ t)).0)
+  module _ {r : ℕ} (e : s.place ≡ Err r) where
+    pub rank_few : r ≤ count s.slot
+    rank_few = omega (arith, (placed e).0, keys_count, below_length key (keys (view m s.leaf).records))
 
-  pub found_value : s.there ≡ true → {e v : ℕ} → e ≡ get_or (names s.slot) s.rank 0 → v ≡ at m (value_at s.leaf e)
-      → find key (view m s.leaf).records ≡ some v
-  found_value t e v =
-      let rs = (view m s.leaf).records in
-      find_present key rs a.rising_keys (sym a.seated.there_is ∙ t)
-      ∙ rw (← a.seated.rank_is, (named_at m s.leaf s.slot a.named s.rank (rank_there t) e).1, v) refl
+  module _ {r : ℕ} (e : s.place ≡ Ok r) where
+    pub rank_there : r < count s.slot
+    rank_there =
+        let ks = keys (view m s.leaf).records in
+        omega (arith, (placed e).0, keys_count, (found_at key ks a.rising_keys (placed e).1).0)
+
+    pub found_value : {i v : ℕ} → i ≡ get_or (names s.slot) r 0 → v ≡ at m (value_at s.leaf i)
+        → find key (view m s.leaf).records ≡ some v
+    found_value i v =
+        find_present key (view m s.leaf).records a.rising_keys (placed e).1
+        ∙ rw (← (placed e).0, (named_at m s.leaf s.slot a.named r rank_there i).1, v) refl

@@ -8,13 +8,12 @@ use lib.ListN.{length}
 use lib.Dec.{ltb}
 use mir.Val.{bool_byte}
 use borrow.Author.Tests.{lt-ltb, le-leb}
-use Rattle.std.specs.Prelude.{Err}
+use Rattle.std.specs.Prelude.{Err, Result}
 use Rattle.words.specs.Tests.{within}
 use Rattle.words.proofs.Tests.{within_says}
 use Rattle.node.specs.View.{view, good, no_end}
 use Rattle.node.specs.inner.Looked.{Inside, Placed}
 use Rattle.node.specs.declared.cover.Look.{Look}
-use Rattle.node.specs.declared.cover.Place.{Place}
 use Rattle.node.specs.declared.layout.Node.{Node}
 use Rattle.tree.specs.declared.descend.Step.{Step}
 use Rattle.tree.specs.declared.descend.Fault.{Fault}
@@ -115,15 +114,14 @@ module _ (m : List ℕ) (key : ℕ) where
     good_node = good_parts fitting
 
   pub leaf_is : {s : Step} → On m key 0 s → {n : Node} {seen : Look} → MetGood m s leaf_least key n seen
-      → {r : Place} → Placed key (view m s.node) r
-      → Seated m key (record { leaf = n.number; slot = n.slot; rank = r.rank; there = r.there })
+      → {r : Result ℕ ℕ} → Placed key (view m s.node) r
+      → Seated m key (record { leaf = n.number; slot = n.slot; place = r })
   leaf_is {s} o {n} g r =
       let e : way_to m key ≡ leaf s.node o.up = o.rest ∙ fitting_leaf m key (kid s.node s.from (suc s.top)) o.up g.in_use (fitting o g) in
       record {
         way_is = rw (g.number_is, e);
         slot_is = n.slot_is ∙ rw (g.pool_is, g.number_is);
-        rank_is = rw g.number_is r.rank_is;
-        there_is = rw g.number_is r.there_is;
+        place_is = rw g.number_is r;
       }
 
   -- the child that covers the key

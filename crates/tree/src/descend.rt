@@ -12,13 +12,12 @@ use crate::header::counts_agree;
 use node::{Look, Node};
 use words::{Pool, Refusal};
 
-// The leaf of a key, its slot word, the rank of the key in it, and whether the key is there.
+// The leaf of a key, its slot word, and the key's rank in it: Ok where the key is there, Err where it is not.
 #[derive(Drop)]
 pub struct Seat {
     pub leaf: u64,
     pub slot: u64,
-    pub rank: u64,
-    pub there: bool,
+    pub place: Result<u64, u64>,
 }
 
 // The node at fault, 0 for the header.
@@ -102,12 +101,10 @@ pub fn descend(pool: &[u64], key: u64) -> Result<Seat, Fault>
     for left in (0..pool[Pool::HEIGHT_AT as usize]).rev() {
         let (node, seen) = step.meet(pool, (0 < left) as u64, key)?;
         if left == 0 {
-            let at = node.place(seen.after, key);
             return Ok(Seat {
                 leaf: node.number,
                 slot: node.slot,
-                rank: at.rank,
-                there: at.there,
+                place: node.place(seen.after, key),
             });
         }
         step = step.down(node, seen.after);

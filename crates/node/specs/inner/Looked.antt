@@ -1,12 +1,11 @@
 -- What looking at a node asks and answers.
 use Rattle.std.specs.Prelude.{ℕ, ◌+◌, ◌≤◌, ◌≡◌, List, Bool, true, false, length, ltb, eqb, if◌then◌else◌}
-use Rattle.std.specs.Prelude.{Option, Some, None, unwrap_or}
+use Rattle.std.specs.Prelude.{Option, Some, None, unwrap_or, Result, Ok, Err}
 use Rattle.words.specs.Pool.{node_at, node_words, capacity_most}
 use Rattle.node.specs.Lists.{has, upto, last_of}
 use Rattle.node.specs.View.{View, keys, rank, good, no_end}
 use Rattle.node.specs.declared.cover.Cover.{Cover}
 use Rattle.node.specs.declared.cover.Look.{Look}
-use Rattle.node.specs.declared.cover.Place.{Place}
 
 -- node k lies inside the memory
 pub record Inside (m : List ℕ) (k : ℕ) : Type 0 where
@@ -34,7 +33,7 @@ abbrev pub Looked : ℕ → ℕ → ℕ → View → Option Look → Type 0
 Looked least from key u None = (hi : ℕ) → good least from hi u ≡ false
 Looked least from key u (Some r) = LookedGood least from key u r
 
--- the rank of a key in a node that says u, and whether it is there
-pub record Placed (key : ℕ) (u : View) (r : Place) : Type 0 where
-  pub rank_is : r.rank ≡ rank u key
-  pub there_is : r.there ≡ has key (keys u.records)
+-- the rank of a key in a node that says u: Ok where the key is there, Err where it is not
+abbrev pub Placed : ℕ → View → Result ℕ ℕ → Type 0
+Placed key u (Ok r) = (r ≡ rank u key) × (has key (keys u.records) ≡ true)
+Placed key u (Err r) = (r ≡ rank u key) × (has key (keys u.records) ≡ false)

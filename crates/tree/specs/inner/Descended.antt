@@ -1,10 +1,10 @@
 -- What the code of the way down asks and answers.
 use Rattle.std.specs.Prelude.{ℕ, suc, ◌≤◌, ◌≡◌, ◌⊎◌, List, [], true, false, length, get_or, take, drop, Result, Ok, Err}
 use Rattle.words.specs.Event.{at}
-use Rattle.node.specs.Lists.{has, all_below}
+use Rattle.node.specs.Lists.{all_below}
 use Rattle.node.specs.Slot.{count, names, entries}
-use Rattle.node.specs.View.{view, good, keys, rank, slot_at}
-use Rattle.node.specs.inner.Looked.{LookedGood}
+use Rattle.node.specs.View.{view, good, slot_at}
+use Rattle.node.specs.inner.Looked.{LookedGood, Placed}
 use Rattle.node.specs.declared.cover.Look.{Look}
 use Rattle.node.specs.declared.layout.Node.{Node}
 use Rattle.tree.specs.declared.descend.Step.{Step}
@@ -57,12 +57,11 @@ pub record Reaches (m : List ℕ) (key : ℕ) : Type 0 where
   pub above : List ℕ
   pub way_is : way_to m key ≡ leaf node above
 
--- the way down to a key found this leaf, with this slot word, and the key has its place there
+-- the way down to a key found this leaf, with this slot word, and the key has this place there
 pub record Seated (m : List ℕ) (key : ℕ) (s : Seat) : Type 0 where
   pub way_is : way_to m key ≡ leaf s.leaf (above_of (way_to m key))
   pub slot_is : s.slot ≡ at m (slot_at s.leaf)
-  pub rank_is : s.rank ≡ rank (view m s.leaf) key
-  pub there_is : s.there ≡ has key (keys (view m s.leaf).records)
+  pub place_is : Placed key (view m s.leaf) s.place
 
 -- the answer to the way down to a key: the node at fault, or the leaf
 abbrev pub Descended : List ℕ → ℕ → Result Seat Fault → Type 0

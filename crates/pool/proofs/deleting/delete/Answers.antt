@@ -2,7 +2,6 @@
 use borrow.Author.Rules.{rules}
 use native.Mathlib.Omega.{arith}
 use mathlib.Core.Path.{◌∙◌}
-use borrow.Author.Tests.{not-true, not-false}
 use Rattle.std.proofs.lemmas.Result.{err_from_is_err_and}
 use Rattle.tree.proofs.Leaves.{rank_there}
 use Rattle.change.specs.Answers.{answer_says}
@@ -22,16 +21,16 @@ returns-in_err-seat c =
     rw (p.1, p.2)
     (said answer_says (quiet_answer _ _ _ (call_shut _ _ _ _ c.in_ok-pass_list.ensures c.in_err-seat.ensures)))
 
-pub returns-then-not-seat : goal.returns-then-not-seat
-returns-then-not-seat c =
+pub returns-in_default : goal.returns-in_default
+returns-in_default c =
     let p = c.in_ok-seat.ensures in
     said answer_says (quiet_answer _ _ _
-    (call_at _ _ _ _ c.in_ok-pass_list.ensures p ∙ delete_absent (found_leaf p) _ (not-true _ c.if-not-seat.true)))
+    (call_at _ _ _ _ c.in_ok-pass_list.ensures p ∙ delete_absent (found_leaf p) _ c.in_default.is))
 
 pub without_name-slot-requires : goal.without_name-slot-requires
 without_name-slot-requires c =
     let a = found_leaf c.in_ok-seat.ensures in
-    (rank_there a (not-false _ c.if-not-seat.false), a.named.few)
+    (rank_there a c.in-Ok.is, a.named.few)
 
 pub node_at-requires : goal.node_at-requires
 node_at-requires c = (found_leaf c.in_ok-seat.ensures).named.inside.most
@@ -44,7 +43,7 @@ once-requires c =
 pub returns : goal.returns
 returns c =
     let p = c.in_ok-seat.ensures in
-    let e = delete_removed (found_leaf p) _ (not-false _ c.if-not-seat.false) c.node_at.ensures c.without_name-slot.ensures in
+    let e = delete_removed (found_leaf p) _ c.in-Ok.is c.node_at.ensures c.without_name-slot.ensures in
     let n = c.new-list.ensures in
     said answer_says
     (planned_answer _ _ _ (call_at _ _ _ _ c.in_ok-pass_list.ensures p ∙ e) c.once.ensures n.list n.events (search rules))

@@ -58,9 +58,9 @@ on_inner c = rw (more c) at c.loop-left.invariant.1
 at_inner : (c : Else-left-eq0) → MetGood c.args.pool.now c.loop-left.step inner_least c.args.key c.in_ok-node.node c.in_ok-node.seen
 at_inner c = rw (least_is, more c) at c.in_ok-node.ensures
 
-pub place-at-requires : goal.place-at-requires
-place-at-requires c =
-    let k = (goal.at.place-at-requires c).Then-left-eq0 in
+pub place-requires : goal.place-requires
+place-requires c =
+    let k = (goal.at.place-requires c).Then-left-eq0 in
     let g = at_leaf k in
     record {
       sound = rw (g.pool_is, g.number_is) (good_sound _ (good_node _ _ c.loop-left.invariant.1 g));
@@ -70,7 +70,7 @@ place-at-requires c =
 pub returns-then-left-eq0 : goal.returns-then-left-eq0
 returns-then-left-eq0 c =
     let g = at_leaf (goal.at.returns-then-left-eq0 c).Then-left-eq0 in
-    leaf_is _ _ (rw c.if-left-eq0.true at c.loop-left.invariant.1) g (rw (g.pool_is, g.number_is) at c.place-at.ensures)
+    leaf_is _ _ (rw c.if-left-eq0.true at c.loop-left.invariant.1) g (rw (g.pool_is, g.number_is) at c.place.ensures)
 
 pub down-step-requires : goal.down-step-requires
 down-step-requires c =

@@ -3,6 +3,7 @@ use mathlib.Core.Path.{◌≡◌, ◌∙◌, sym}
 use mathlib.Core.Bool.{true}
 use Prim.Native.Nat.{ℕ, suc, ◌+◌, ◌-◌, ◌≤◌, ◌<◌}
 use native.Mathlib.Omega.{arith}
+use borrow.Author.Tests.{eq-eqb, ne_eqb}
 use lib.Dec.{eqb}
 use lib.ListN.{get_or}
 use mir.Val.{bool_byte}
@@ -46,7 +47,7 @@ module _ (n : Node) (after key : ℕ) (good : sound 0 (said n) ≡ true) (is : a
 pub returns-then-after-eq0 : goal.returns-then-after-eq0
 returns-then-after-eq0 c =
     let p = placed_none c.args.key _ (sound_parts _ c.requires.sound).2 (sym c.requires.after_value ∙ c.if-after-eq0.true) in
-    record { rank_is = sym p.0; there_is = sym p.1 }
+    (sym p.0, p.1)
 
 pub name-requires : goal.name-requires
 name-requires c =
@@ -61,16 +62,18 @@ key-requires c =
     let r = c.requires in
     low a.self a.after a.key r.sound r.after_value c.if-after-eq0.false c.name.ensures
 
-pub overflow_sub-result : goal.overflow_sub-result
-overflow_sub-result c =
+pub returns-then-key : goal.returns-then-key
+returns-then-key c =
     let a = c.args in
     let r = c.requires in
     let p = placed a.self a.after a.key r.sound r.after_value c.if-after-eq0.false c.name.ensures c.key.ensures in
-    rw p.0 (omega (arith, p.1))
+    let absent = sym p.0 ∙ ne_eqb _ _ c.if-key.true in
+    (omega (arith, rw absent at p.1), absent)
 
 pub returns : goal.returns
 returns c =
     let a = c.args in
     let r = c.requires in
     let p = placed a.self a.after a.key r.sound r.after_value c.if-after-eq0.false c.name.ensures c.key.ensures in
-    record { rank_is = rw p.0 (omega (arith, p.1)); there_is = p.0 }
+    let there = sym p.0 ∙ eq-eqb _ _ c.if-key.false in
+    (omega (arith, rw there at p.1), there)
