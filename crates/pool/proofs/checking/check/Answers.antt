@@ -20,13 +20,6 @@ returns-then-not-counts_agree c =
     let bad = sym c.counts_agree.ensures ∙ c.if-not-counts_agree.true in
     examined (check_damaged _ _ c.in_ok-pass_pool.ensures c.if-marks-pool.false bad)
 
-pub check_tree-requires : goal.check_tree-requires
-check_tree-requires c = record {
-  form = (whole_pool _ c.in_ok-pass_pool.ensures).0;
-  counts = sym c.counts_agree.ensures ∙ c.if-not-counts_agree.false;
-  marks_in = c.if-marks-pool.false;
-}
-
 pub returns : goal.returns
 returns c =
     let good = sym c.counts_agree.ensures ∙ c.if-not-counts_agree.false in

@@ -30,9 +30,6 @@ zeros c = cleared _ _ c.requires.marks_in (c.fill.ensures.after (λ y e. e))
 pub check_node-requires : goal.check_node-requires
 check_node-requires c = first_ready c.requires (zeros (goal.at.check_node-requires c).After-fill)
 
-pub check_end-requires : goal.check_end-requires
-check_end-requires c = let ready = goes_on c.in-Ok.ensures in (ready.room, ready.last_in)
-
 pub returns-in-Err : goal.returns-in-Err
 returns-in-Err c =
     let end = tree_stops c.requires (zeros (goal.at.returns-in-Err c).After-fill) c.in-Err.ensures in
