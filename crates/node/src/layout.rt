@@ -71,7 +71,7 @@ impl<'a> Node<'a> {
         requires { e < s.entries }
         ensures { result ≡ at self.entry.pool.now (v.key_at self.entry.number e) }
     {
-        record_key(self.pool, self.number, e)
+        self.pool[Node::key_at(self.number, e) as usize]
     }
 
     // The value or the child of entry e.
@@ -93,13 +93,6 @@ pub fn link(pool: &[u64], k: u64) -> u64
     ensures { result ≡ at pool.now (v.link_at k) }
 {
     pool[Node::link_at(k) as usize]
-}
-
-pub fn record_key(pool: &[u64], k: u64, e: u64) -> u64
-    requires { Inside pool.now k × (e < s.entries) }
-    ensures { result ≡ at pool.now (v.key_at k e) }
-{
-    pool[Node::key_at(k, e) as usize]
 }
 
 pub fn record_value(pool: &[u64], k: u64, e: u64) -> u64

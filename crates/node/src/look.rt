@@ -21,10 +21,7 @@ fn follows(j: u64, low: u64, x: u64) -> bool
 fn ends(cover: Cover, j: u64, last: u64) -> bool
     ensures { result ≡ l.ends (end_of cover) j last }
 {
-    match cover.hi {
-        None => true,
-        Some(hi) => j == 0 || last < hi,
-    }
+    cover.hi.is_none_or(|hi| j == 0 || last < hi)
 }
 
 impl Node<'_> {
@@ -66,10 +63,8 @@ impl Node<'_> {
     pub fn fits(self, least: u64, cover: Cover) -> bool
         ensures { result ≡ v.good least cover.lo (end_of cover) (said self.entry) }
     {
-        match self.look(least, cover.lo, 0) {
-            None => false,
-            Some(seen) => ends(cover, count(self.slot), seen.last),
-        }
+        self.look(least, cover.lo, 0)
+            .is_some_and(|seen| ends(cover, count(self.slot), seen.last))
     }
 
     // The rank of a key in the node, which is sound and of whose keys so many are not above it: Ok where the key is there, as the last of
