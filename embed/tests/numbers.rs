@@ -95,7 +95,7 @@ fn kinds_of_answer() {
             ("the definition", definition),
             (
                 "the proved code",
-                numbers(&text("crates/exports/src/reply.rt"), "pub const ", ": u64 = "),
+                numbers(&part(&text("crates/exports/src/reply.rt"), "pub enum Kind {", "}"), "", " = "),
             ),
         ],
     );

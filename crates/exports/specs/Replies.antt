@@ -12,7 +12,26 @@ use Rattle.change.specs.declared.Checked.TheVariants as c
 use Rattle.change.specs.Gate.{outcome_of, events_of}
 use Rattle.exports.specs.declared.reply.Reply.{Reply}
 use Rattle.exports.specs.declared.reply.Verdict.{Verdict}
+use Rattle.exports.specs.declared.reply.Kind.{Kind}
+use Rattle.exports.specs.declared.reply.Kind.TheVariants as kinds
 use Rattle.words.specs.Kinds as k
+
+-- the number of a kind
+abbrev pub kind_number : Kind → ℕ
+kind_number kinds.Refused = k.refused
+kind_number kinds.New = k.new
+kind_number kinds.Replaced = k.replaced
+kind_number kinds.Removed = k.removed
+kind_number kinds.Absent = k.absent
+kind_number kinds.Found = k.found
+kind_number kinds.Formatted = k.formatted
+kind_number kinds.Clean = k.clean
+kind_number kinds.Recovered = k.recovered
+kind_number kinds.Sound = k.sound
+kind_number kinds.Fault = k.fault
+kind_number kinds.Done = k.done
+kind_number kinds.Accepted = k.accepted
+kind_number kinds.Idle = k.idle
 
 -- a kind, the events planned, and a value
 abbrev pub plain : ℕ → ℕ → ℕ → Reply
@@ -46,13 +65,21 @@ recovery_reply (Ok r.Clean) = plain k.clean 0 0
 recovery_reply (Ok (r.Recovered pairs events)) = plain k.recovered events pairs
 recovery_reply (Err why) = refused why
 
+-- a call that tells no more than that it is done: a kind, and the events that it counts
+abbrev pub done_reply : Result (Unit {0}) Refusal → ℕ → ℕ → Reply
+done_reply (Ok _) kind events = plain kind events 0
+done_reply (Err why) kind events = refused why
+
 -- carrying out one event: done, with that event counted
 abbrev pub carried_reply : Result (Unit {0}) Refusal → Reply
-carried_reply (Ok _) = plain k.done 1 0
-carried_reply (Err why) = refused why
+carried_reply carried = done_reply carried k.done 1
+
+-- of a check: a kind, a number of nodes, of a node or of a refusal, and the records
+abbrev pub plain_verdict : ℕ → ℕ → ℕ → Verdict
+plain_verdict kind number records = record { kind = kind; number = number; records = records }
 
 -- check: "Sound (nodes, records)", "or Fault with the first met", the node that is named
 abbrev pub verdict : Result Checked Refusal → Verdict
-verdict (Ok (c.Sound nodes records)) = record { kind = k.sound; number = nodes; records = records }
-verdict (Ok (c.Fault node)) = record { kind = k.fault; number = node; records = 0 }
-verdict (Err why) = record { kind = k.refused; number = number why; records = 0 }
+verdict (Ok (c.Sound nodes records)) = plain_verdict k.sound nodes records
+verdict (Ok (c.Fault node)) = plain_verdict k.fault node 0
+verdict (Err why) = plain_verdict k.refused (number why) 0

@@ -11,7 +11,7 @@ impl From<Refusal> for Reply {
     ghost from_gives = { λ why r. r ≡ d.refused why };
 
     fn from(why: Refusal) -> Reply {
-        Reply::new(Kind::REFUSED, 0, why.number())
+        Reply::new(Kind::Refused, 0, why.number())
     }
 }
 
@@ -19,11 +19,11 @@ pub fn outcome_reply(outcome: Result<Outcome, Refusal>, events: u64) -> Reply
     ensures { result ≡ d.outcome_reply outcome events }
 {
     match outcome {
-        Ok(Outcome::New) => Reply::new(Kind::NEW, events, 0),
-        Ok(Outcome::Replaced) => Reply::new(Kind::REPLACED, events, 0),
-        Ok(Outcome::Removed) => Reply::new(Kind::REMOVED, events, 0),
-        Ok(Outcome::Absent) => Reply::new(Kind::ABSENT, events, 0),
-        Ok(Outcome::Found(value)) => Reply::new(Kind::FOUND, events, value),
+        Ok(Outcome::New) => Reply::new(Kind::New, events, 0),
+        Ok(Outcome::Replaced) => Reply::new(Kind::Replaced, events, 0),
+        Ok(Outcome::Removed) => Reply::new(Kind::Removed, events, 0),
+        Ok(Outcome::Absent) => Reply::new(Kind::Absent, events, 0),
+        Ok(Outcome::Found(value)) => Reply::new(Kind::Found, events, value),
         Err(why) => Reply::from(why),
     }
 }
@@ -43,7 +43,7 @@ pub fn format_reply(formatted: Result<u64, Refusal>) -> Reply
     ensures { result ≡ d.format_reply formatted }
 {
     match formatted {
-        Ok(events) => Reply::new(Kind::FORMATTED, events, 0),
+        Ok(events) => Reply::new(Kind::Formatted, events, 0),
         Err(why) => Reply::from(why),
     }
 }
@@ -53,18 +53,19 @@ impl From<Result<Recovery, Refusal>> for Reply {
 
     fn from(recovery: Result<Recovery, Refusal>) -> Reply {
         match recovery {
-            Ok(Recovery::Clean) => Reply::new(Kind::CLEAN, 0, 0),
-            Ok(Recovery::Recovered(pairs, events)) => Reply::new(Kind::RECOVERED, events, pairs),
+            Ok(Recovery::Clean) => Reply::new(Kind::Clean, 0, 0),
+            Ok(Recovery::Recovered(pairs, events)) => Reply::new(Kind::Recovered, events, pairs),
             Err(why) => Reply::from(why),
         }
     }
 }
 
-pub fn carried_reply(carried: Result<(), Refusal>) -> Reply
-    ensures { result ≡ d.carried_reply carried }
+// Of a call that answers the unit: what kind of answer it is when all went well, and the events that it counts.
+pub fn done_reply(done: Result<(), Refusal>, kind: Kind, events: u64) -> Reply
+    ensures { result ≡ d.done_reply done (d.kind_number kind) events }
 {
-    match carried {
-        Ok(()) => Reply::new(Kind::DONE, 1, 0),
+    match done {
+        Ok(()) => Reply::new(kind, events, 0),
         Err(why) => Reply::from(why),
     }
 }
@@ -74,21 +75,9 @@ impl From<Result<Checked, Refusal>> for Verdict {
 
     fn from(checked: Result<Checked, Refusal>) -> Verdict {
         match checked {
-            Ok(Checked::Sound(nodes, records)) => Verdict {
-                kind: Kind::SOUND,
-                number: nodes,
-                records,
-            },
-            Ok(Checked::Fault(node)) => Verdict {
-                kind: Kind::FAULT,
-                number: node,
-                records: 0,
-            },
-            Err(why) => Verdict {
-                kind: Kind::REFUSED,
-                number: why.number(),
-                records: 0,
-            },
+            Ok(Checked::Sound(nodes, records)) => Verdict::new(Kind::Sound, nodes, records),
+            Ok(Checked::Fault(node)) => Verdict::new(Kind::Fault, node, 0),
+            Err(why) => Verdict::new(Kind::Refused, why.number(), 0),
         }
     }
 }

@@ -1,6 +1,5 @@
 // What the exported calls answer, as words that C and Rust read alike.
 ghost use Rattle.std.specs.Prelude.{◌≡◌};
-ghost use Rattle.words.specs.Kinds as k;
 ghost use Rattle.exports.specs.Replies as d;
 
 // A kind of answer, the events planned (of carrying out, done), and the value found, the pairs replayed or the number of the refusal.
@@ -13,11 +12,11 @@ pub struct Reply {
 }
 
 impl Reply {
-    pub fn new(kind: u64, events: u64, value: u64) -> Reply
-        ensures { result ≡ d.plain kind events value }
+    pub fn new(kind: Kind, events: u64, value: u64) -> Reply
+        ensures { result ≡ d.plain (d.kind_number kind) events value }
     {
         Reply {
-            kind,
+            kind: kind.number(),
             events,
             value,
         }
@@ -33,54 +32,41 @@ pub struct Verdict {
     pub records: u64,
 }
 
-// The kinds of answer.
-#[derive(Drop)]
-pub struct Kind {}
-
-impl Kind {
-    pub const REFUSED: u64 = 0;
-
-    pub const NEW: u64 = 1;
-
-    pub const REPLACED: u64 = 2;
-
-    pub const REMOVED: u64 = 3;
-
-    pub const ABSENT: u64 = 4;
-
-    pub const FOUND: u64 = 5;
-
-    pub const FORMATTED: u64 = 6;
-
-    pub const CLEAN: u64 = 7;
-
-    pub const RECOVERED: u64 = 8;
-
-    pub const SOUND: u64 = 9;
-
-    pub const FAULT: u64 = 10;
-
-    pub const DONE: u64 = 11;
-
-    pub const ACCEPTED: u64 = 12;
-
-    pub const IDLE: u64 = 13;
+impl Verdict {
+    pub fn new(kind: Kind, number: u64, records: u64) -> Verdict
+        ensures { result ≡ d.plain_verdict (d.kind_number kind) number records }
+    {
+        Verdict {
+            kind: kind.number(),
+            number,
+            records,
+        }
+    }
 }
 
-// The constants are the numbers of the definitions.
-fn named_once()
-    ensures refused { Kind.REFUSED ≡ k.refused }
-    ensures new { Kind.NEW ≡ k.new }
-    ensures replaced { Kind.REPLACED ≡ k.replaced }
-    ensures removed { Kind.REMOVED ≡ k.removed }
-    ensures absent { Kind.ABSENT ≡ k.absent }
-    ensures found { Kind.FOUND ≡ k.found }
-    ensures formatted { Kind.FORMATTED ≡ k.formatted }
-    ensures clean { Kind.CLEAN ≡ k.clean }
-    ensures recovered { Kind.RECOVERED ≡ k.recovered }
-    ensures sound { Kind.SOUND ≡ k.sound }
-    ensures fault { Kind.FAULT ≡ k.fault }
-    ensures done { Kind.DONE ≡ k.done }
-    ensures accepted { Kind.ACCEPTED ≡ k.accepted }
-    ensures idle { Kind.IDLE ≡ k.idle }
-{}
+// The kinds of answer, each with its number.
+#[derive(Clone, Copy)]
+pub enum Kind {
+    Refused = 0,
+    New = 1,
+    Replaced = 2,
+    Removed = 3,
+    Absent = 4,
+    Found = 5,
+    Formatted = 6,
+    Clean = 7,
+    Recovered = 8,
+    Sound = 9,
+    Fault = 10,
+    Done = 11,
+    Accepted = 12,
+    Idle = 13,
+}
+
+impl Kind {
+    fn number(self) -> u64
+        ensures { result ≡ d.kind_number self }
+    {
+        self as u64
+    }
+}

@@ -4,8 +4,8 @@
 ghost use Rattle.words.specs.Carry.{CarryAllPromise};
 ghost use Rattle.exports.specs.Promises as p;
 
-use exports::replies::{carried_reply, format_reply, outcome_reply};
-use exports::reply::{Reply, Verdict};
+use exports::replies::{done_reply, format_reply, outcome_reply};
+use exports::reply::{Kind, Reply, Verdict};
 
 #[unsafe(no_mangle)]
 pub extern "C" fn ombykape_format(pool: &[u64], list: &mut [u64], capacity: u64) -> Reply
@@ -53,7 +53,7 @@ pub extern "C" fn ombykape_check(pool: &[u64], marks: &mut [u8]) -> Verdict
 pub extern "C" fn ombykape_carry_out(pool: &mut [u64], list: &[u64], n: u64) -> Reply
     ensures { p.CarryPromise pool.old list.now n result pool.new }
 {
-    carried_reply(words::carry_out(pool, list, n))
+    done_reply(words::carry_out(pool, list, n), Kind::Done, 1)
 }
 
 // The events of the list from 1 to a number, one after the other.

@@ -6,13 +6,12 @@ use Rattle.desk.specs.declared.answer.Turned.TheVariants.{Served, Idle}
 use Rattle.desk.specs.declared.answer.Turn.{Turn}
 use Rattle.exports.specs.declared.reply.Reply.{Reply}
 use Rattle.words.specs.Kinds as k
-use Rattle.exports.specs.Replies.{plain, refused, outcome_reply}
+use Rattle.exports.specs.Replies.{plain, refused, outcome_reply, done_reply}
 use Rattle.turns.specs.declared.replies.TurnReply.{TurnReply}
 
 -- submit: "Submit fills an empty one", or 9 or 10
 abbrev pub submitted_reply : Result Unit Refusal → Reply
-submitted_reply (Ok x) = plain k.accepted 0 0
-submitted_reply (Err why) = refused why
+submitted_reply submitted = done_reply submitted k.accepted 0
 
 -- the member's outcome, Idle, or the refusal of the turn itself
 abbrev pub turned_reply : Result Turned Refusal → ℕ → Reply

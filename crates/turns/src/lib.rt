@@ -5,4 +5,4 @@ mod record;
 mod replies;
 
 pub use record::DeskRecord;
-pub use replies::{TurnReply, submitted_reply};
+pub use replies::TurnReply;

@@ -1,4 +1,4 @@
-// What submit and turn answer, as replies. A reply is a type of `exports`, so what turns an answer of submit into one is a function.
+// What a turn answers, as a reply.
 ghost use Rattle.std.specs.Prelude.{◌≡◌};
 ghost use Rattle.turns.specs.Replies as d;
 
@@ -18,21 +18,12 @@ pub struct TurnReply {
     pub value: u64,
 }
 
-pub fn submitted_reply(submitted: Result<(), Refusal>) -> Reply
-    ensures { result ≡ d.submitted_reply submitted }
-{
-    match submitted {
-        Ok(()) => Reply::new(Kind::ACCEPTED, 0, 0),
-        Err(why) => Reply::from(why),
-    }
-}
-
 fn turned_reply(turned: Result<Turned, Refusal>, events: u64) -> Reply
     ensures { result ≡ d.turned_reply turned events }
 {
     match turned {
         Ok(Turned::Served(outcome)) => outcome_reply(outcome, events),
-        Ok(Turned::Idle) => Reply::new(Kind::IDLE, events, 0),
+        Ok(Turned::Idle) => Reply::new(Kind::Idle, events, 0),
         Err(why) => Reply::from(why),
     }
 }

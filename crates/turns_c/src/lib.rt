@@ -6,8 +6,16 @@ ghost use Rattle.change.specs.declared.Request.TheVariants.{Put, Fetch, Delete};
 ghost use Rattle.turns.specs.Promises.{SubmitPromise, PlanTurnPromise, TurnPromise};
 
 use change::Request;
-use exports::reply::Reply;
-use turns::{DeskRecord, TurnReply, submitted_reply};
+use exports::replies::done_reply;
+use exports::reply::{Kind, Reply};
+use turns::{DeskRecord, TurnReply};
+
+// A submit of any request.
+fn submitted(desks: &mut [DeskRecord], member: u64, request: Request) -> Reply
+    ensures { SubmitPromise desks.old member request result desks.new }
+{
+    done_reply(desk::submit(desks, member, request), Kind::Accepted, 0)
+}
 
 #[unsafe(no_mangle)]
 pub extern "C" fn ombykape_submit_put(
@@ -18,21 +26,21 @@ pub extern "C" fn ombykape_submit_put(
 ) -> Reply
     ensures { SubmitPromise desks.old member (Put key value) result desks.new }
 {
-    submitted_reply(desk::submit(desks, member, Request::Put(key, value)))
+    submitted(desks, member, Request::Put(key, value))
 }
 
 #[unsafe(no_mangle)]
 pub extern "C" fn ombykape_submit_fetch(desks: &mut [DeskRecord], member: u64, key: u64) -> Reply
     ensures { SubmitPromise desks.old member (Fetch key) result desks.new }
 {
-    submitted_reply(desk::submit(desks, member, Request::Fetch(key)))
+    submitted(desks, member, Request::Fetch(key))
 }
 
 #[unsafe(no_mangle)]
 pub extern "C" fn ombykape_submit_delete(desks: &mut [DeskRecord], member: u64, key: u64) -> Reply
     ensures { SubmitPromise desks.old member (Delete key) result desks.new }
 {
-    submitted_reply(desk::submit(desks, member, Request::Delete(key)))
+    submitted(desks, member, Request::Delete(key))
 }
 
 // A turn whose events are left to be carried out.
