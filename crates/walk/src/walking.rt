@@ -141,22 +141,22 @@ fn check_node(
         nodes: seen.nodes + 1,
         ..seen
     };
-    check_children(node, marks, levels - 1, 0, leftmost, counted)
+    check_children(&node, marks, levels - 1, 0, leftmost, counted)
 }
 
 // The children of a node from a slot on, slot 0 being the leftmost. The kid is the one in the slot, and covers all that are left.
 #[cycle(check_children_check_node)]
 fn check_children(
-    node: Node<'_>,
+    node: &Node<'_>,
     marks: &mut [u8],
     levels: u64,
     slot: u64,
     kid: Kid,
     seen: Seen,
 ) -> Result<Seen, Fault>
-    requires { Ready node.pool.now (seen_with seen marks.old) × (sound 0 (said node) ≡ true) × (slot ≤ s.count node.slot) }
-    ensures { Walks node.entry.pool.now (t.each_child (t.node_walk levels node.entry.pool.now kid.least kid.parent)
-        (kids_left node.entry slot kid) (seen_with seen marks.old)) result marks.new }
+    requires { Ready node.now.pool.now (seen_with seen marks.old) × (sound 0 (said node.now) ≡ true) × (slot ≤ s.count node.now.slot) }
+    ensures { Walks node.now.pool.now (t.each_child (t.node_walk levels node.now.pool.now kid.least kid.parent)
+        (kids_left node.now slot kid) (seen_with seen marks.old)) result marks.new }
 {
     if slot == count(node.slot) {
         return check_node(node.pool, marks, levels, kid, seen);

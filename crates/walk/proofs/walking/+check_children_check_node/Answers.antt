@@ -16,31 +16,31 @@ use Rattle.walk.proofs.walking.+check_children_check_node.Goals as goal
 use Rattle.walk.proofs.walking.+check_children_check_node.Goals.{check_children-After-until, check_node-After-fits}
 
 pub check_children-check_node-requires : goal.check_children-check_node-requires
-check_children-check_node-requires t c = (omega (arith, (sound_named c.args.node c.requires.1).few), c.requires.0)
+check_children-check_node-requires t c = (omega (arith, (sound_named c.args.node.now c.requires.1).few), c.requires.0)
 
 pub check_children-returns-then-slot-count : goal.check_children-returns-then-slot-count
 check_children-returns-then-slot-count t c =
-    ch.only _ _ _ c.check_node.ensures (ch.last_kid c.args.node _ c.args.kid (c.if-slot-count.true ∙ c.count.ensures))
+    ch.only _ _ _ c.check_node.ensures (ch.last_kid c.args.node.now _ c.args.kid (c.if-slot-count.true ∙ c.count.ensures))
 
 pub check_children-name-entry-requires : goal.check_children-name-entry-requires
-check_children-name-entry-requires t c = (omega arith, (sound_named c.args.node c.requires.1).few)
+check_children-name-entry-requires t c = (omega arith, (sound_named c.args.node.now c.requires.1).few)
 
 pub check_children-key-key-requires : goal.check_children-key-key-requires
-check_children-key-key-requires t c = name_low _ _ _ (sound_named c.args.node c.requires.1) _ (omega arith) c.name-entry.ensures
+check_children-key-key-requires t c = name_low _ _ _ (sound_named c.args.node.now c.requires.1) _ (omega arith) c.name-entry.ensures
 
 pub check_children-value-requires : goal.check_children-value-requires
-check_children-value-requires t c = name_low _ _ _ (sound_named c.args.node c.requires.1) _ (omega arith) c.name-entry.ensures
+check_children-value-requires t c = name_low _ _ _ (sound_named c.args.node.now c.requires.1) _ (omega arith) c.name-entry.ensures
 
 pub check_children-check_node-requires-2 : goal.check_children-check_node-requires-2
-check_children-check_node-requires-2 t c = (omega (arith, (sound_named c.args.node c.requires.1).few), c.requires.0)
+check_children-check_node-requires-2 t c = (omega (arith, (sound_named c.args.node.now c.requires.1).few), c.requires.0)
 
 -- the child in the slot, and those after it
-turn : {t : ℕ} (c : check_children-After-until t) → kids_left c.args.node c.args.slot c.args.kid
+turn : {t : ℕ} (c : check_children-After-until t) → kids_left c.args.node.now c.args.slot c.args.kid
     ≡ kid_of (record c.args.kid { cover = record c.args.kid.cover { hi = Some c.key-key.result } })
-    ∷ kids_left c.args.node (c.args.slot + 1)
+    ∷ kids_left c.args.node.now (c.args.slot + 1)
     (record c.args.kid { number = c.value.result; cover = record c.args.kid.cover { lo = c.key-key.result } })
 turn c =
-    ch.next_kid c.args.node _ c.args.kid c.requires.1 (omega arith) c.name-entry.ensures c.key-key.ensures c.value.ensures
+    ch.next_kid c.args.node.now _ c.args.kid c.requires.1 (omega arith) c.name-entry.ensures c.key-key.ensures c.value.ensures
 
 pub check_children-returns-in_err-met : goal.check_children-returns-in_err-met
 check_children-returns-in_err-met t c =
@@ -50,7 +50,7 @@ check_children-returns-in_err-met t c =
 
 pub check_children-check_children-requires : goal.check_children-check_children-requires
 check_children-check_children-requires t c = (
-  omega (arith, (sound_named c.args.node c.requires.1).few),
+  omega (arith, (sound_named c.args.node.now c.requires.1).few),
   (w.goes_on c.in_ok-met.ensures, c.requires.1, omega arith),
 )
 
