@@ -31,9 +31,6 @@ pub returns-then-events-eq0 : goal.returns-then-events-eq0
 unfolding after_all
 returns-then-events-eq0 c = rw c.if-events-eq0.true
 
-pub loop-n-init : goal.loop-n-init
-loop-n-init c = let all : c.args.events + 1 - 1 ≡ c.args.events = omega arith in rw all
-
 pub loop-n-preserved : goal.loop-n-preserved
 loop-n-preserved c = one_more _ _ _ _ _ _ (omega arith) c.loop-n.invariant c.carry_out.ensures.1
 
