@@ -2,7 +2,6 @@
 use mathlib.Core.Path.{◌∙◌, sym}
 use mathlib.Core.Bool.{Bool}
 use Prim.Native.Nat.{◌+◌, ◌≤◌, ◌<◌}
-use native.Mathlib.Nat.{lt_of_le_of_lt}
 use native.Mathlib.Omega.{arith}
 use borrow.Author.Tests.{lt-ltb, le-ltb}
 use lib.Bits.{bit_and, and_mask}
@@ -50,12 +49,6 @@ returns-then-not-follows c =
     (i.invariant.1
     ∙ walk_fault _ _ _ i.j i.last i.after _ i.rest (omega arith) (and_mask i.rest 8)
     (lt-ltb (bit_and i.rest 255) entries entry_low) (rw (← c.key-x.ensures) fault))
-
-pub overflow_add-after : goal.overflow_add-after
-overflow_add-after c =
-    let is_upto : Bool = leb c.key-x.result c.args.key in
-    let after_le : let i = c.loop-j in i.after + bool_byte is_upto ≤ i.j + 1 = omega (arith, bit_le is_upto) in
-    record { fits = lt_of_le_of_lt after_le (omega arith) }
 
 pub loop-j-preserved : goal.loop-j-preserved
 loop-j-preserved c =
