@@ -7,8 +7,9 @@ use lib.ListN.{length}
 use lib.Dec.{ltb, eqb}
 use Rattle.std.specs.Prelude.{if◌then◌else◌, Result, Ok, Err}
 use Rattle.words.specs.Tests.{within}
-use Rattle.words.specs.Pool.{list_words, capacity_most, total_of}
+use Rattle.words.specs.Pool.{list_words, capacity_most}
 use Rattle.words.specs.Written.{written}
+use Rattle.words.specs.declared.event.Event.{Event}
 use Rattle.words.specs.declared.refusal.Refusal.{Refusal}
 use Rattle.node.specs.Lists.{has}
 use Rattle.node.specs.View.{view, keys}
@@ -19,7 +20,7 @@ use Rattle.change.specs.declared.Request.TheVariants.{Put, Fetch, Delete}
 use Rattle.change.specs.declared.Outcome.{Outcome}
 use Rattle.change.specs.Gate.{Planned, refused, list_after, with_count, answered, outcome_of, events_of, past_gate, at_leaf}
 use Rattle.change.specs.Format.{format, format_past_list}
-use Rattle.change.specs.Recover.{recover, recover_past_form, log_agrees}
+use Rattle.change.specs.Recover.{recover, recover_past_form}
 use Rattle.change.specs.Delete.{delete_at}
 use Rattle.change.specs.Put.{put_at}
 use Rattle.change.specs.Calls.{serve, serve_answer, serve_list}
@@ -34,6 +35,11 @@ quiet_if false x y h k = k
 
 quiet_past : {A : Type 0} (b : Bool) (why : Refusal) (y : Planned A) → Quiet y → Quiet (if b then refused why else y)
 quiet_past b why y h = quiet_if b (refused why) y (λ why e. refl) h
+
+-- the last test, whatever it is, before an answer
+quiet_end : {A : Type 0} (b : Bool) (why : Refusal) (a : A) (es : List Event)
+    → Quiet (if b then refused why else record { answer = Ok a; events = es })
+quiet_end b why a es = quiet_past b why _ (λ why e. cc)
 
 quiet_gate : (m : List ℕ) (key : ℕ) (body : ℕ → List ℕ → Planned Outcome) → ((k : ℕ) (above : List ℕ) → Quiet (body k above))
     → Quiet (past_gate refused m (at_leaf body (way_to m key)))
@@ -67,13 +73,13 @@ quiet_format : (room size capacity : ℕ) → Quiet (format room size capacity)
 unfolding format_past_list
 quiet_format room size capacity =
     quiet_past (ltb room list_words) _ _ (quiet_past (not (within 1 capacity capacity_most)) _ _
-    (quiet_past (ltb size (total_of capacity)) _ _ (λ why e. cc)))
+    (quiet_end _ _ _ _))
 
 quiet_recover : (room : ℕ) (m : List ℕ) → Quiet (recover room m)
 unfolding recover_past_form
 quiet_recover room m =
     quiet_past (ltb room list_words) _ _ (quiet_past (not (form_agrees m)) _ _
-    (quiet_if (eqb (commit_of m) 0) _ _ (λ why e. refl) (quiet_past (not (log_agrees m)) _ _ (λ why e. cc))))
+    (quiet_if (eqb (commit_of m) 0) _ _ (λ why e. refl) (quiet_end _ _ _ _)))
 
 -- then the lent list is as it was
 kept : {A : Type 0} (p : Planned A) (l : List ℕ) → Quiet p → (why : Refusal) → p.answer ≡ Err why → list_after p l ≡ l
