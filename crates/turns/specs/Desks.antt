@@ -1,5 +1,5 @@
 -- Desks as records: each is a kind, a key and a value, document 01's "lent list of records, one for each member".
-use Rattle.std.specs.Prelude.{◌≡◌, ℕ, List, map, eqb, Some, None, if◌then◌else◌, refl}
+use Rattle.std.specs.Prelude.{ℕ, List, map, eqb, Some, None, if◌then◌else◌}
 use Rattle.change.specs.declared.Request.{Request}
 use Rattle.change.specs.declared.Request.TheVariants.{Put, Fetch, Delete}
 use Rattle.desk.specs.Desk.{Desk, with_desk}
@@ -38,13 +38,6 @@ record_of None = record { kind = nothing; key = 0; value = 0 }
 record_of (Some (Put key value)) = record { kind = put; key = key; value = value }
 record_of (Some (Fetch key)) = record { kind = fetch; key = key; value = 0 }
 record_of (Some (Delete key)) = record { kind = delete; key = key; value = 0 }
-
--- what is written into a record is read from it
-pub read_back : (d : Desk) → desk_of (record_of d) ≡ d
-read_back None = refl
-read_back (Some (Put key value)) = refl
-read_back (Some (Fetch key)) = refl
-read_back (Some (Delete key)) = refl
 
 -- "Submit fills an empty one.": the records after a submit of this request
 abbrev pub submit_records : List DeskRecord → ℕ → Request → List DeskRecord

@@ -1,5 +1,6 @@
 // A desk as it is lent: a kind, a key and a value.
-ghost use Rattle.std.specs.Prelude.{◌≡◌, refl};
+ghost use Rattle.std.specs.Prelude.{◌≡◌, None, Some, refl};
+ghost use Rattle.change.specs.declared.Request.TheVariants.{Put, Fetch, Delete};
 ghost use Rattle.turns.specs.Desks as d;
 
 use change::Request;
@@ -60,5 +61,11 @@ impl Lent for DeskRecord {
 
     ghost reads_each = { λ rs. refl };
 
-    ghost says_made = { d.read_back };
+    // What is written into a record is read from it.
+    ghost says_made = { elim [
+      | None ↦ refl
+      | Some (Put key value) ↦ refl
+      | Some (Fetch key) ↦ refl
+      | Some (Delete key) ↦ refl
+    ] };
 }
