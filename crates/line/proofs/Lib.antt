@@ -2,5 +2,6 @@
 pub mod Parts
 pub mod Decimal
 pub mod Texts
+pub mod Written
 pub mod TakenLemmas
 pub mod Examples

@@ -2,6 +2,7 @@
 #![tactic(auto)]
 
 mod answering;
+pub mod lent;
 mod numbers;
 mod parsing;
 mod taking;

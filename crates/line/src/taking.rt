@@ -8,8 +8,8 @@ use change::Request;
 // The bytes since the last newline, as far as a line may have them, and whether there were more.
 #[derive(Drop)]
 pub struct Taker {
-    line: ArrayVec<u8, LINE_MOST>,
-    long: bool,
+    pub line: ArrayVec<u8, LINE_MOST>,
+    pub long: bool,
 }
 
 impl Taker {

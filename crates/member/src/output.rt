@@ -1,5 +1,5 @@
 // Output, gathered in a buffer and written in blocks.
-ghost use Rattle.std.specs.Prelude.{◌≡◌, [], OnOk};
+ghost use Rattle.std.specs.Prelude.{◌≡◌, []};
 
 use crate::failure::Failure;
 use arrayvec::ArrayVec;
@@ -27,12 +27,12 @@ impl Output {
         Ok(())
     }
 
-    // Writes what waits.
+    // Writes what waits. Where the write fails, what waits is given up.
     pub fn write_out(&mut self, rt: &impl Print) -> Result<(), Failure>
-        ensures { OnOk result (self.new.waiting.items ≡ []) }
+        ensures { self.new.waiting.items ≡ [] }
     {
-        rt.write_all(&self.waiting).map_err(|_| Failure::Write)?;
+        let told = rt.write_all(&self.waiting);
         self.waiting.clear();
-        Ok(())
+        told.map_err(|_| Failure::Write)
     }
 }
