@@ -4,7 +4,8 @@ use trials::tally::Tally;
 
 pub fn tell_whether(rt: &impl Print, name: &str, good: bool) -> io::Result<()> {
     let answer = if good { "ok" } else { "differs" };
-    println!(rt; "{name}: {answer}")
+    print!(rt; "{name}")?;
+    println!(rt; ": {answer}")
 }
 
 // What came is held against what was worked out.

@@ -61,6 +61,18 @@ store_kind none slip p = let h = first_store none p in omega arith
 pub write_place : {a b : EventList} → a.events ≡ 0 → at b.words.now 0 ≡ 5 → ¬ Wrote (store 0 5 ∷ []) a b
 write_place none slip p = let h = first_store none p in omega arith
 
+-- both of these slips in a list of two words, which no call is handed: it is too short
+abbrev TwoWords : ℕ → ℕ → Type 0
+TwoWords a b = a ∷ b ∷ [] ≡ written (store 0 5 ∷ []) 0 (0 ∷ 0 ∷ [])
+
+pub store_kind_two : ¬ TwoWords (first_word (flush 0)) 5
+unfolding written
+store_kind_two p = let h : first_word (flush 0) ≡ first_word (store 0 5) = ap (λ (m : List ℕ). at m 0) p in omega arith
+
+pub write_place_two : ¬ TwoWords 5 0
+unfolding written
+write_place_two p = let h : 5 ≡ first_word (store 0 5) = ap (λ (m : List ℕ). at m 0) p in omega arith
+
 -- 31 pairs fit between commit word and nodes, and 32 do not
 pub log_holds : (pairs_at + 2 * pairs_most ≤ nodes_at) × (nodes_at < pairs_at + 2 * (pairs_most + 1))
 log_holds = (omega arith, omega arith)
