@@ -2,6 +2,7 @@
 pub mod Answers
 pub mod Bounds
 pub mod LentDesks
+pub mod Round
 pub mod Looking
 pub mod Served
 pub mod TwoSteps
@@ -10,6 +11,7 @@ pub mod Choose
 pub mod Desks
 pub mod Submits
 pub mod Turns
+pub mod OneByOne
 pub mod Took
 pub mod Fair
 pub mod Once

@@ -19,7 +19,7 @@ use mir.Syntax.{Dict}
 use Rattle.std.specs.Prelude.{Result}
 use Rattle.std.specs.declared.clone.Clone.{Ghosts as CloneGhosts}
 use Rattle.words.specs.declared.refusal.Refusal.{Refusal}
-use Rattle.words.proofs.Answers.{one_outcome, both_same}
+use Rattle.words.proofs.Answers.{one_outcome, both_given, both_same}
 use Rattle.words.proofs.Tight.{Tight}
 use Rattle.change.specs.declared.Request.{Request}
 use Rattle.change.specs.contracts.Request.{the_row as request_row}
@@ -48,6 +48,16 @@ use Rattle.desk.proofs.turn.Kinds as turn_kinds
 use Rattle.desk.proofs.turn.Reads as turn_reads
 use Rattle.desk.proofs.ask.Kinds as ask
 use Rattle.desk.proofs.ask.Reads as ask_reads
+use Rattle.desk.proofs.plan_chosen.Kinds as plan_chosen
+use Rattle.desk.proofs.plan_chosen.Reads as plan_chosen_reads
+use Rattle.desk.proofs.seat.Kinds as seat
+use Rattle.desk.proofs.seat.Reads as seat_reads
+use Rattle.desk.proofs.looked_at.Kinds as looked_at
+use Rattle.desk.proofs.looked_at.Reads as looked_at_reads
+use Rattle.desk.proofs.looked_member.Kinds as looked_member
+use Rattle.desk.proofs.looked_member.Reads as looked_member_reads
+use Rattle.desk.proofs.note.Kinds as note
+use Rattle.desk.proofs.note.Reads as note_reads
 
 -- of submit, turn and plan_turn, at desks lent in any form: in every model the contract asks nothing but that the borrow of the desks ends
 -- no later than what the desks borrow themselves, and ensures the promise of the desks that are read, and which lent desks are left ..
@@ -199,3 +209,21 @@ ask_tight = record {
       let desk = ap (λ (ds : List Desk). get_or ds 0 fresh) (h.4 ∙ sym k.4) in
       (asked_is submitted turn desk, both_same (h.2 ∙ sym k.2) (h.3 ∙ sym k.3));
 }
+
+-- and the steps of a turn, for a caller with desks of another form: one is lent a pool to read, and a list
+pub plan_chosen_tight : Tight 2 plan_chosen.ps plan_chosen.r plan_chosen_reads.Asked plan_chosen_reads.Learnt (λ κs x. x.1.0.now)
+plan_chosen_tight = record { free = λ κs a. tt; one = λ κs a r s x y. both_given }
+
+-- and nothing to the others
+pub seat_tight : Tight 0 seat.ps seat.r {B = Unit {0}} seat_reads.Asked seat_reads.Learnt (λ κs x. tt)
+seat_tight = record { free = λ κs a. tt; one = λ κs a r s x y h k. (h ∙ sym k, refl) }
+
+pub looked_at_tight : Tight 0 looked_at.ps looked_at.r {B = Unit {0}} looked_at_reads.Asked looked_at_reads.Learnt (λ κs x. tt)
+looked_at_tight = record { free = λ κs a. tt; one = λ κs a r s x y h k. (h ∙ sym k, refl) }
+
+pub looked_member_tight : Tight 0 looked_member.ps looked_member.r {B = Unit {0}} looked_member_reads.Asked
+    looked_member_reads.Learnt (λ κs x. tt)
+looked_member_tight = record { free = λ κs a. tt; one = λ κs a r s x y h k. (h ∙ sym k, refl) }
+
+pub note_tight : Tight 0 note.ps note.r {B = Unit {0}} note_reads.Asked note_reads.Learnt (λ κs x. tt)
+note_tight = record { free = λ κs a. tt; one = λ κs a r s x y h k. (h ∙ sym k, refl) }

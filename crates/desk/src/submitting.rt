@@ -8,7 +8,7 @@ use change::Request;
 use words::Refusal;
 
 // The place of a member's desk.
-fn seat(desks: usize, member: u64) -> Result<usize, Refusal>
+pub fn seat(desks: usize, member: u64) -> Result<usize, Refusal>
     ensures { result ≡ (if may_submit desks member then Ok (member - 1) else Err Refusal.NoDesk) }
 {
     if DeskList::MOST < desks || !(1..=desks as u64).contains(&member) {

@@ -51,7 +51,7 @@ fn choose<L: Lent>(
 }
 
 // An answer with no member served.
-fn unserved(turned: Result<Turned, Refusal>, last: u64) -> Turn
+pub fn unserved(turned: Result<Turned, Refusal>, last: u64) -> Turn
     ensures { result ≡ t.unserved last turned }
 {
     Turn {
@@ -63,7 +63,7 @@ fn unserved(turned: Result<Turned, Refusal>, last: u64) -> Turn
 }
 
 // The answer of a member served.
-fn served(answer: Result<Answer, Refusal>, member: u64) -> Turn
+pub fn served(answer: Result<Answer, Refusal>, member: u64) -> Turn
     ensures { result ≡ parts.served member answer }
 {
     let (outcome, events) = match answer {

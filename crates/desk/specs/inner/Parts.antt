@@ -1,5 +1,5 @@
 -- What the functions under a turn do. The promise of turn does not rest on these.
-use Rattle.std.specs.Prelude.{ℕ, ◌-◌, List, Option, Result, Ok, Err, not, length, ltb, option_map, if◌then◌else◌}
+use Rattle.std.specs.Prelude.{ℕ, ◌-◌, List, Option, Result, Ok, Err, not, ◌&&◌, length, ltb, option_map, if◌then◌else◌}
 use Rattle.words.specs.Pool.{list_words}
 use Rattle.words.specs.declared.refusal.Refusal.{Refusal}
 use Rattle.words.specs.declared.refusal.Refusal.TheVariants.{ShortList, NoDesk}
@@ -8,7 +8,8 @@ use Rattle.change.specs.declared.Answer.{Answer}
 use Rattle.change.specs.Gate.{outcome_of, events_of}
 use Rattle.desk.specs.declared.answer.Turned.TheVariants.{Served}
 use Rattle.desk.specs.declared.answer.Turn.{Turn}
-use Rattle.desk.specs.Desk.{Desk, held, may_turn, choose}
+use Rattle.desk.specs.declared.steps.Chosen.{Chosen}
+use Rattle.desk.specs.Desk.{Desk, full, held, may_turn, choose}
 
 -- the place of a member's desk and the request that it holds; of nobody, as of an empty desk, none
 abbrev pub found : List Desk → ℕ → Option (ℕ × Request)
@@ -25,3 +26,7 @@ chosen l ds last =
 abbrev pub served : ℕ → Result Answer Refusal → Turn
 served member a =
     record { turned = Ok (Served (outcome_of a)); member = member; events = events_of a; last = member }
+
+-- one desk more is looked at: the first full one stays
+abbrev pub noted : Chosen → ℕ → Desk → Chosen
+noted found member d = if not (full found.desk) && full d then record { member = member; desk = d } else found
