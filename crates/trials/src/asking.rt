@@ -17,16 +17,20 @@ pub struct Kept<const N: usize> {
 }
 
 impl<const N: usize> Kept<N> {
-    // An empty pool of a capacity, if the words are enough for it.
-    pub fn fresh(capacity: u64) -> Kept<N> {
-        let mut kept = Kept {
+    // Zeroes, of which `make` makes a pool where they lie.
+    #[inline(always)]
+    pub fn zeroed() -> Kept<N> {
+        Kept {
             pool: [0; N],
             list: [0; LIST_WORDS],
-        };
-        if let Ok(events) = pool::format(&mut kept.pool, &mut kept.list, capacity) {
-            words::carry_all(&mut kept.pool, &kept.list, events);
         }
-        kept
+    }
+
+    // An empty pool of a capacity, if the words are enough for it.
+    pub fn make(&mut self, capacity: u64) {
+        if let Ok(events) = pool::format(&mut self.pool, &mut self.list, capacity) {
+            words::carry_all(&mut self.pool, &self.list, events);
+        }
     }
 
     pub fn serve(&mut self, request: Request) -> Result<Answer, Refusal> {

@@ -38,10 +38,11 @@ impl Trial {
 // Parts, one after the other, on a fresh pool of a capacity.
 pub fn play(capacity: u64, parts: &[Part]) -> Tally {
     let mut trial = Trial {
-        kept: Kept::fresh(capacity),
+        kept: Kept::zeroed(),
         model: Model::default(),
         tally: Tally::sound(0, 0, 0),
     };
+    trial.kept.make(capacity);
     for part in parts {
         trial.run(*part);
     }

@@ -17,7 +17,9 @@ fn on<const N: usize>(kept: &mut Kept<N>, desks: &mut [Desk], last: u64, row: &[
 }
 
 fn on_fresh_pool(desks: &mut [Desk], last: u64, row: &[Step]) -> bool {
-    on(&mut Kept::<POOL_WORDS>::fresh(CAPACITY), desks, last, row)
+    let mut kept = Kept::<POOL_WORDS>::zeroed();
+    kept.make(CAPACITY);
+    on(&mut kept, desks, last, row)
 }
 
 // "One desk: next turn serves it."
@@ -101,7 +103,8 @@ fn last_past_desks() -> bool {
 
 // A list of 371 words: the turn is refused whether or not a desk is full, and leaves it full.
 fn short_list() -> bool {
-    let mut kept = Kept::<POOL_WORDS>::fresh(CAPACITY);
+    let mut kept = Kept::<POOL_WORDS>::zeroed();
+    kept.make(CAPACITY);
     let row = [
         Step::unserved(Err(Refusal::ShortList), 2),
         Step::accepted(1, Request::Put(1, 10)),
@@ -147,7 +150,8 @@ fn refused_row(request: Request, why: Refusal) -> [Step; 5] {
 fn with_word(at: u64, word: u64, why: Refusal) -> bool
     requires { at ≤ 8 }
 {
-    let mut kept = Kept::<POOL_WORDS>::fresh(CAPACITY);
+    let mut kept = Kept::<POOL_WORDS>::zeroed();
+    kept.make(CAPACITY);
     kept.pool[at as usize] = word;
     on(
         &mut kept,
@@ -179,7 +183,8 @@ fn seven_puts() -> [Step; 14] {
 
 // The only node of a pool is full.
 fn no_room() -> bool {
-    let mut kept = Kept::<LEAST_WORDS>::fresh(1);
+    let mut kept = Kept::<LEAST_WORDS>::zeroed();
+    kept.make(1);
     let filled = on(&mut kept, &mut [DeskList::FRESH; 7], 0, &seven_puts());
     let new = refused_row(Request::Put(80, 8), Refusal::NoRoom);
     filled && on(&mut kept, &mut [DeskList::FRESH; 3], 0, &new)
