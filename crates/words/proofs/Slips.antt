@@ -61,7 +61,7 @@ store_kind none slip p = let h = first_store none p in omega arith
 pub write_place : {a b : EventList} → a.events ≡ 0 → at b.words.now 0 ≡ 5 → ¬ Wrote (store 0 5 ∷ []) a b
 write_place none slip p = let h = first_store none p in omega arith
 
--- both of these slips in a list of two words, which no call is handed: it is too short
+-- both of these slips in a list of two words, shorter than any that is written into
 abbrev TwoWords : ℕ → ℕ → Type 0
 TwoWords a b = a ∷ b ∷ [] ≡ written (store 0 5 ∷ []) 0 (0 ∷ 0 ∷ [])
 

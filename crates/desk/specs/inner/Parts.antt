@@ -1,4 +1,4 @@
--- What the functions under a turn do. The promise of turn does not rest on these.
+-- What the functions under a turn do, and a turn's steps one by one. The promise of turn does not rest on these.
 use Rattle.std.specs.Prelude.{ℕ, ◌-◌, List, Option, Result, Ok, Err, not, ◌&&◌, length, ltb, option_map, if◌then◌else◌}
 use Rattle.words.specs.Pool.{list_words}
 use Rattle.words.specs.declared.refusal.Refusal.{Refusal}
